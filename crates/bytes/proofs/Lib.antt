@@ -1,0 +1,8 @@
+-- What the proofs of several functions, and of the crates above, cite.
+pub mod Widths
+pub mod Signs
+pub mod Patterns
+pub mod Appends
+pub mod Going
+pub mod Deliveries
+pub mod Round

@@ -1,0 +1,4 @@
+pub mod Le
+pub mod Wrote
+pub mod Deliver
+pub mod Answer

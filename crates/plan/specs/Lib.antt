@@ -1,0 +1,4 @@
+pub mod Form
+pub mod Walk
+pub mod Exact
+pub mod Demand

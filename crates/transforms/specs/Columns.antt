@@ -1,0 +1,21 @@
+-- 01, "Range ends": lists spread over the columns, and a rule taken column by column.
+use mathlib.Core.Bool.{Bool, not, _||_}
+use mathlib.Core.List.{List, [], _∷_}
+use Prim.Native.Nat.{ℕ}
+use lib.ListN.{length}
+use lib.Dec.{eqb}
+use Rattle.numbers.specs.Result.{Result, ok, andThen}
+
+-- `broadcast` takes the list. 18: "A bound list has neither one entry nor one per output column"
+abbrev pub spreads {ℓ} : {X : Type ℓ} → ℕ → List X → Bool
+spreads columns xs = eqb (length xs) columns || eqb (length xs) 1
+
+-- 01: "Columns go in order, 23 and 24 tested column by column"; for categories "pairing stops at the shorter"
+unfoldable pub eachPair : {X Y : Type 0} → (X → X → Result Y) → List X → List X → Result (List Y)
+eachPair rule [] ys = ok []
+eachPair rule (x ∷ xs) [] = ok []
+eachPair rule (x ∷ xs) (y ∷ ys) = andThen (rule x y) (λ z. andThen (eachPair rule xs ys) (λ zs. ok (z ∷ zs)))
+
+unfoldable pub each : {X Y : Type 0} → (X → Result Y) → List X → Result (List Y)
+each rule [] = ok []
+each rule (x ∷ xs) = andThen (rule x) (λ z. andThen (each rule xs) (λ zs. ok (z ∷ zs)))

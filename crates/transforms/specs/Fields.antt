@@ -1,0 +1,112 @@
+-- 01, "Other fields": the sheet that a component derives of its operands and of the new nature.
+use mathlib.Core.Bool.{Bool, true, false, cond, _&&_, _||_}
+use mathlib.Core.List.{List}
+use mathlib.Core.Option.{Option, none, some}
+use Prim.Native.Nat.{ℕ, max}
+use lib.IntN.{ℤ, pos}
+use lib.Ieee as Ieee
+use lib.Ieee.{Float, binary64, ofBits}
+use Rattle.numbers.specs.Kind.{Span, zeroFloat}
+use Rattle.utilities.specs.Lists.{any}
+use Rattle.base.specs.Sheet.{Nature, absent, wholeRange, floatRange, wholeLists, boolLists, floatLists, Fields, Sheet}
+use Rattle.base.specs.declared.Component.{Component}
+use Rattle.base.specs.declared.Component.the-variants as C
+use Rattle.transforms.specs.Shape.{groupsOf, widest, rowsOf, greaterOption}
+
+-- 01: "a float range has a column with lower < 0 < upper, lower > 0 with no upper, upper < 0 with no lower, or neither end"
+abbrev pub spansZero : Option Float → Option Float → Bool
+spansZero none none = true
+spansZero none (some f) = Ieee.lt f zeroFloat
+spansZero (some d) none = Ieee.lt zeroFloat d
+spansZero (some d) (some f) = Ieee.lt d zeroFloat && Ieee.lt zeroFloat f
+
+-- 01: "float categories hold NaN or a zero"
+abbrev pub nanOrZero : ℕ → Bool
+nanOrZero bits = Ieee.isNan (ofBits binary64 bits) || Ieee.eq (ofBits binary64 bits) zeroFloat
+
+-- 01: "Divide also sets nullity if right nature is absent, .."
+unfoldable pub mayMeetZero : Nature → Bool
+mayMeetZero absent = true
+mayMeetZero (wholeRange rs) = false
+mayMeetZero (floatRange rs) = any (λ r. spansZero (r .lower) (r .upper)) rs
+mayMeetZero (wholeLists ls) = false
+mayMeetZero (boolLists ls) = false
+mayMeetZero (floatLists ls) = any (λ l. any nanOrZero l) ls
+
+unfoldable pub addsNullity : Component → Nature → Bool
+addsNullity C.Abs k = false
+addsNullity C.Add k = false
+addsNullity C.Subtract k = false
+addsNullity C.Multiply k = false
+addsNullity C.Divide k = mayMeetZero k
+addsNullity C.Modulo k = false
+addsNullity C.Log k = false
+addsNullity C.Power k = false
+addsNullity C.Negative k = false
+
+-- 01: "2 to 5: nullity either; releasable and not empty both; c-stability, columns, dimensionality greater (absent least); aggregator absent; type,
+-- dataset, sample from left; .. ordered 1"
+unfoldable pub pairFields : Component → Sheet → Sheet → Fields
+pairFields c l r =
+    let x = l .fields in
+    let y = r .fields in
+    record {
+      dataType = x .dataType;
+      nullity = x .nullity || y .nullity || addsNullity c (r .nature);
+      releasable = x .releasable && y .releasable;
+      notEmpty = x .notEmpty && y .notEmpty;
+      ordered = true;
+      cStability = max (x .cStability) (y .cStability);
+      aggregator = 0;
+      rows = rowsOf l r;
+      columns = some (widest l r);
+      dataset = x .dataset;
+      dimensionality = greaterOption (x .dimensionality) (y .dimensionality);
+      sample = x .sample;
+    }
+
+-- 01: "6 to 8 copy left, but for nature, not empty (both), dimensionality (greater), groups"
+unfoldable pub copyFields : Sheet → Sheet → Fields
+copyFields l r =
+    let x = l .fields in
+    let y = r .fields in
+    record {
+      dataType = x .dataType;
+      nullity = x .nullity;
+      releasable = x .releasable;
+      notEmpty = x .notEmpty && y .notEmpty;
+      ordered = x .ordered;
+      cStability = x .cStability;
+      aggregator = x .aggregator;
+      rows = x .rows;
+      columns = x .columns;
+      dataset = x .dataset;
+      dimensionality = greaterOption (x .dimensionality) (y .dimensionality);
+      sample = x .sample;
+    }
+
+-- the sheets of components 2 to 5, of 6 to 8, and of 1 and 9; the call's node number enters in `numbered`
+abbrev pub pairSheet : Component → Sheet → Sheet → Nature → Sheet
+pairSheet c l r k = record { fields = pairFields c l r; node = l .node; groups = groupsOf l r; nature = k }
+
+abbrev pub copySheet : Sheet → Sheet → Nature → Sheet
+copySheet l r k = record { fields = copyFields l r; node = l .node; groups = groupsOf l r; nature = k }
+
+-- 01: "Abs and Negative copy left but for nature"
+abbrev pub unarySheet : Sheet → Nature → Sheet
+unarySheet s k = record { fields = s .fields; node = s .node; groups = s .groups; nature = k }
+
+abbrev pub withNode : ℤ → Sheet → Sheet
+withNode z s = record { fields = s .fields; node = z; groups = s .groups; nature = s .nature }
+
+-- 01: "node the call's" for 2 to 5; the others keep left's
+unfoldable pub numbered : Component → ℕ → Sheet → Sheet
+numbered C.Abs node s = s
+numbered C.Add node s = withNode (pos node) s
+numbered C.Subtract node s = withNode (pos node) s
+numbered C.Multiply node s = withNode (pos node) s
+numbered C.Divide node s = withNode (pos node) s
+numbered C.Modulo node s = s
+numbered C.Log node s = s
+numbered C.Power node s = s
+numbered C.Negative node s = s

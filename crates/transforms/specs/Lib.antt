@@ -1,0 +1,10 @@
+pub mod Columns
+pub mod Shape
+pub mod Categories
+pub mod Natures
+pub mod Orders
+pub mod Fields
+pub mod Derive
+pub mod Single
+pub mod Computing
+pub mod Shelf

@@ -1,0 +1,132 @@
+-- `propagate_unary_nature` and `propagate_binary_nature`: 17 to 26, and the nature derived.
+use mathlib.Core.Bool.{Bool, true, false, cond, not}
+use mathlib.Core.List.{List, [], _∷_}
+use mathlib.Core.Option.{Option, none, some}
+use Prim.Native.Nat.{ℕ}
+use lib.IntN.{ℤ}
+use lib.Dec.{eqb}
+use lib.Ieee.{Float}
+use Rattle.numbers.specs.Result.{Result, ok, refused, andThen, check, checked}
+use Rattle.numbers.specs.Kind.{Kind, Span, whole, float}
+use Rattle.utilities.specs.Lists.{repeated}
+use Rattle.base.specs.Form.{intType, floatListsNature}
+use Rattle.base.specs.Sheet.{Nature, absent, wholeRange, floatRange, wholeLists, boolLists, floatLists}
+use Rattle.base.specs.Encode.{natureNumber, entryCount}
+use Rattle.base.specs.declared.Component.{Component}
+use Rattle.base.specs.declared.Component.the-variants as C
+use Rattle.ends.specs.Ends.{endRule, unknown}
+use Rattle.transforms.specs.Columns.{spreads, each, eachPair}
+use Rattle.transforms.specs.Categories.{categoryRule, combined, mapped, counted}
+
+-- the end rule on whole ranges: Modulo of type Float has none for them, and both ends are absent
+unfoldable pub wholeRule : Component → ℕ → Span ℤ → Span ℤ → Result (Span ℤ)
+wholeRule C.Modulo type x y = cond (eqb type intType) (endRule whole C.Modulo x y) unknown
+wholeRule C.Abs type x y = endRule whole C.Abs x y
+wholeRule C.Add type x y = endRule whole C.Add x y
+wholeRule C.Subtract type x y = endRule whole C.Subtract x y
+wholeRule C.Multiply type x y = endRule whole C.Multiply x y
+wholeRule C.Divide type x y = endRule whole C.Divide x y
+wholeRule C.Log type x y = endRule whole C.Log x y
+wholeRule C.Power type x y = endRule whole C.Power x y
+wholeRule C.Negative type x y = endRule whole C.Negative x y
+
+-- 01: "Lists of one entry spread over the columns", after 18 has passed the lists, left's first
+unfoldable pub rangePair : {E : Type 0} → (Span E → Span E → Result (Span E)) → ℕ → List (Span E) → List (Span E) → Result (List (Span E))
+rangePair rule columns xs ys =
+    checked (check 18 (not (spreads columns xs)) ∷ check 18 (not (spreads columns ys)) ∷ [])
+    (eachPair rule (repeated columns xs) (repeated columns ys))
+
+unfoldable pub rangeAlone : {E : Type 0} → (Span E → Span E → Result (Span E)) → ℕ → List (Span E) → Result (List (Span E))
+rangeAlone rule columns xs = checked (check 18 (not (spreads columns xs)) ∷ []) (each (λ x. rule x x) (repeated columns xs))
+
+-- 22: "The component has no rule for this category kind"; 01: "Bool has none anywhere"
+abbrev pub ruleFor : Component → ℕ → Nature → Option (ℤ → ℤ → Result ℤ)
+ruleFor c type absent = none
+ruleFor c type (wholeRange rs) = none
+ruleFor c type (floatRange rs) = none
+ruleFor c type (wholeLists ls) = categoryRule c type
+ruleFor c type (boolLists ls) = none
+ruleFor c type (floatLists ls) = none
+
+abbrev pub ruled : {X : Type 0} → Option (ℤ → ℤ → Result ℤ) → ((ℤ → ℤ → Result ℤ) → Result X) → Result X
+ruled none rest = refused 22
+ruled (some rule) rest = rest rule
+
+abbrev pub wholeListsOf : Nature → List (List ℤ)
+wholeListsOf absent = []
+wholeListsOf (wholeRange rs) = []
+wholeListsOf (floatRange rs) = []
+wholeListsOf (wholeLists ls) = ls
+wholeListsOf (boolLists ls) = []
+wholeListsOf (floatLists ls) = []
+
+-- 19: "Float categories are to be combined or mapped"; 20: "A category operand has no lists"
+abbrev pub isFloatLists : Nature → Bool
+isFloatLists k = eqb (natureNumber k) floatListsNature
+
+abbrev pub noLists : Nature → Bool
+noLists k = eqb (entryCount k) 0
+
+module _ (limit : ℕ) (c : Component) (type columns : ℕ) where
+  abbrev pub limited : Result (List (List ℤ)) → Result Nature
+  limited g = andThen g (λ ls. andThen (counted limit ls) (λ ms. ok (wholeLists ms)))
+
+  -- two category operands: 19 to 22, then the product
+  unfoldable pub listsPair : Nature → Nature → Result Nature
+  listsPair l r =
+      checked
+      (check 19 (isFloatLists l)
+      ∷ check 20 (noLists l)
+      ∷ check 19 (isFloatLists r)
+      ∷ check 20 (noLists r)
+      ∷ check 21 (not (eqb (natureNumber l) (natureNumber r)))
+      ∷ [])
+      (ruled (ruleFor c type l) (λ rule. limited (combined rule columns (wholeListsOf l) (wholeListsOf r))))
+
+  unfoldable pub listsAlone : Nature → Result Nature
+  listsAlone l =
+      checked (check 19 (isFloatLists l) ∷ check 20 (noLists l) ∷ [])
+      (ruled (ruleFor c type l) (λ rule. limited (mapped rule columns (wholeListsOf l))))
+
+  unfoldable pub wholeRangeWith : List (Span ℤ) → Nature → Result Nature
+  wholeRangeWith xs absent = ok absent
+  wholeRangeWith xs (wholeRange ys) = andThen (rangePair (wholeRule c type) columns xs ys) (λ zs. ok (wholeRange zs))
+  wholeRangeWith xs (floatRange ys) = refused 17
+  wholeRangeWith xs (wholeLists ms) = ok absent
+  wholeRangeWith xs (boolLists ms) = ok absent
+  wholeRangeWith xs (floatLists ms) = ok absent
+
+  -- 17: "One range is whole, the other float"
+  unfoldable pub floatRangeWith : List (Span Float) → Nature → Result Nature
+  floatRangeWith xs absent = ok absent
+  floatRangeWith xs (wholeRange ys) = refused 17
+  floatRangeWith xs (floatRange ys) = andThen (rangePair (endRule float c) columns xs ys) (λ zs. ok (floatRange zs))
+  floatRangeWith xs (wholeLists ms) = ok absent
+  floatRangeWith xs (boolLists ms) = ok absent
+  floatRangeWith xs (floatLists ms) = ok absent
+
+  unfoldable pub listsWith : Nature → Nature → Result Nature
+  listsWith l absent = ok absent
+  listsWith l (wholeRange ys) = ok absent
+  listsWith l (floatRange ys) = ok absent
+  listsWith l (wholeLists ms) = listsPair l (wholeLists ms)
+  listsWith l (boolLists ms) = listsPair l (boolLists ms)
+  listsWith l (floatLists ms) = listsPair l (floatLists ms)
+
+  -- `propagate_binary_nature`. 01: "Either nature absent, or range with categories, gives absent"
+  unfoldable pub binaryNature : Nature → Nature → Result Nature
+  binaryNature absent r = ok absent
+  binaryNature (wholeRange xs) r = wholeRangeWith xs r
+  binaryNature (floatRange xs) r = floatRangeWith xs r
+  binaryNature (wholeLists ls) r = listsWith (wholeLists ls) r
+  binaryNature (boolLists ls) r = listsWith (boolLists ls) r
+  binaryNature (floatLists ls) r = listsWith (floatLists ls) r
+
+  -- `propagate_unary_nature`
+  unfoldable pub unaryNature : Nature → Result Nature
+  unaryNature absent = ok absent
+  unaryNature (wholeRange xs) = andThen (rangeAlone (endRule whole c) columns xs) (λ zs. ok (wholeRange zs))
+  unaryNature (floatRange xs) = andThen (rangeAlone (endRule float c) columns xs) (λ zs. ok (floatRange zs))
+  unaryNature (wholeLists ls) = listsAlone (wholeLists ls)
+  unaryNature (boolLists ls) = listsAlone (boolLists ls)
+  unaryNature (floatLists ls) = listsAlone (floatLists ls)

@@ -1,0 +1,93 @@
+-- The order of the checks, one list for each of the three groups of components. 01: "Checks 3 to 5 finish on left before right; so do 6 and 7, and 19 and 20".
+use mathlib.Core.Bool.{Bool, true, false, cond, not, _&&_, _||_}
+use mathlib.Core.List.{List, [], _∷_, _++_}
+use mathlib.Core.Option.{Option, none, some}
+use Prim.Native.Nat.{ℕ}
+use lib.Dec.{eqb}
+use lib.Ieee as Ieee
+use lib.Ieee.{binary64, ofBits}
+use Rattle.numbers.specs.Result.{Check, check}
+use Rattle.numbers.specs.Kind.{oneFloat}
+use Rattle.base.specs.Form.{floatType, intType}
+use Rattle.base.specs.Sheet.{Sheet, isWholeRange}
+use Rattle.base.specs.Bounds.{lowersPresent, uppersPresent, wholeLowersPresent, lowersPositive, lowersNonNegative, allSuitAsBase}
+use Rattle.transforms.specs.Shape.{bothPrivate, groupsDiffer, sameDataset, columnsAbsent, columnsClash, rowsClash}
+
+-- 6: "An operand that isn't releasable has an aggregator"
+abbrev pub aggregated : Sheet → Bool
+aggregated s = not (s .fields .releasable) && not (eqb (s .fields .aggregator) 0)
+
+-- 7: "a sample proportion present and not equal to 1"
+abbrev pub notOne : Option ℕ → Bool
+notOne none = false
+notOne (some bits) = not (Ieee.eq (ofBits binary64 bits) oneFloat)
+
+abbrev pub sampled : Sheet → Bool
+sampled s = not (s .fields .releasable) && notOne (s .fields .sample)
+
+-- 6 and 7 of one operand
+abbrev pub operandChecks : Sheet → List Check
+operandChecks s = check 6 (aggregated s) ∷ check 7 (sampled s) ∷ []
+
+module _ (l r : Sheet) where
+  -- 8: "Neither operand is releasable and their groups differ"
+  abbrev pub groupsClash : Bool
+  groupsClash = bothPrivate l r && groupsDiffer l r
+
+  -- 14: "Others need equal types"; "Modulo (types both Int or both Float)", "Log (left type Float)", "Power (both Int or both Float)"
+  abbrev pub typesDiffer : Bool
+  typesDiffer = not (eqb (l .fields .dataType) (r .fields .dataType))
+
+  abbrev pub bothOf : ℕ → Bool
+  bothOf type = eqb (l .fields .dataType) type && eqb (r .fields .dataType) type
+
+  -- 01: "Components 2 to 5 check in list order"; 17 to 26 follow
+  abbrev pub pairChecks : List Check
+  pairChecks =
+      operandChecks l
+      ++ operandChecks r
+      ++ (check 8 groupsClash
+      ∷ check 9 (bothPrivate l r && not (sameDataset l r))
+      ∷ check 10 (bothPrivate l r && not (eqb (l .fields .cStability) (r .fields .cStability)))
+      ∷ check 11 (columnsAbsent l || columnsAbsent r)
+      ∷ check 12 (columnsClash l r)
+      ∷ check 13 (rowsClash l r)
+      ∷ check 14 typesDiffer
+      ∷ [])
+
+  -- 14 to 16 of Modulo: "types both Int or both Float", "right lowers all above 0"
+  abbrev pub moduloChecks : List Check
+  moduloChecks =
+      cond (bothOf intType) (check 15 (not (wholeLowersPresent (r .nature))) ∷ check 16 (not (lowersPositive (r .nature))) ∷ [])
+      (cond (bothOf floatType) (check 15 (not (lowersPresent (r .nature))) ∷ check 16 (not (lowersPositive (r .nature))) ∷ [])
+      (check 14 true ∷ []))
+
+  -- 14 to 16 of Log: "left type Float"; "15 and 16 are done for the base, then for the data". Whole data under a whole base is 15, which keeps Log out of
+  -- demand 3's plans (docs/DIFFERENCES.md)
+  abbrev pub logChecks : List Check
+  logChecks =
+      check 14 (not (eqb (l .fields .dataType) floatType))
+      ∷ check 15 (not (lowersPresent (r .nature) && uppersPresent (r .nature)))
+      ∷ check 16 (not (allSuitAsBase (r .nature)))
+      ∷ check 15 (not (lowersPresent (l .nature)))
+      ∷ check 15 (isWholeRange (l .nature) && isWholeRange (r .nature))
+      ∷ check 16 (not (lowersPositive (l .nature)))
+      ∷ []
+
+  -- 14 to 16 of Power: "both Int or both Float: for Int all right lowers ≥ 0"
+  abbrev pub powerChecks : List Check
+  powerChecks =
+      cond (bothOf intType) (check 15 (not (wholeLowersPresent (r .nature))) ∷ check 16 (not (lowersNonNegative (r .nature))) ∷ [])
+      (cond (bothOf floatType) []
+      (check 14 true ∷ []))
+
+  -- 01: "Modulo, Log and Power check 6, 7, 14, 15, 16, 11, then 17 to 26, then 8"; for 11 "only left's is read"
+  abbrev pub copyChecks : List Check → List Check
+  copyChecks boundChecks = operandChecks l ++ operandChecks r ++ boundChecks ++ (check 11 (columnsAbsent l) ∷ [])
+
+  abbrev pub lastChecks : List Check
+  lastChecks = check 8 groupsClash ∷ []
+
+-- 01: "Abs and Negative check 6, 11, then 18 to 26"
+abbrev pub unaryChecks : Sheet → List Check
+unaryChecks s = check 6 (aggregated s) ∷ check 11 (columnsAbsent s) ∷ []

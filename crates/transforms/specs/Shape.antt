@@ -1,0 +1,91 @@
+-- `propagate_binary_group_id` and `propagate_binary_shape`: groups, columns and rows of two operands.
+use mathlib.Core.Bool.{Bool, true, false, cond, not, _&&_, _||_}
+use mathlib.Core.List.{List, [], _∷_}
+use mathlib.Core.Option.{Option, none, some}
+use Prim.Native.Nat.{ℕ, max}
+use lib.IntN.{ℤ, pos}
+use lib.Dec.{eqb}
+use lib.Signed.{ltZ}
+use Rattle.numbers.specs.Kind.{eqZ}
+use Rattle.base.specs.Sheet.{Group, Sheet}
+use Rattle.base.specs.Bounds.{isPresent}
+
+-- "absent equals absent"
+abbrev pub sameOption : {X : Type 0} → (X → X → Bool) → Option X → Option X → Bool
+sameOption same none none = true
+sameOption same none (some b) = false
+sameOption same (some a) none = false
+sameOption same (some a) (some b) = same a b
+
+abbrev pub greaterZ : ℤ → ℤ → ℤ
+greaterZ a b = cond (ltZ a b) b a
+
+-- 01: "greater (absent least)"
+abbrev pub greaterOption : Option ℤ → Option ℤ → Option ℤ
+greaterOption none y = y
+greaterOption (some a) none = some a
+greaterOption (some a) (some b) = some (greaterZ a b)
+
+-- 01: "the greater, absent if either is"
+abbrev pub greaterPresent : Option ℤ → Option ℤ → Option ℤ
+greaterPresent none y = none
+greaterPresent (some a) none = none
+greaterPresent (some a) (some b) = some (greaterZ a b)
+
+abbrev pub sameGroup : Group → Group → Bool
+sameGroup a b = eqb (a .partition) (b .partition) && eqb (a .kind) (b .kind) && eqZ (a .index) (b .index)
+
+-- equal in count and in order
+unfoldable pub sameGroups : List Group → List Group → Bool
+sameGroups [] [] = true
+sameGroups [] (b ∷ bs) = false
+sameGroups (a ∷ as′) [] = false
+sameGroups (a ∷ as′) (b ∷ bs) = sameGroup a b && sameGroups as′ bs
+
+module _ (l r : Sheet) where
+  -- 01, 8 to 10: "Neither operand is releasable and .."
+  abbrev pub bothPrivate : Bool
+  bothPrivate = not (l .fields .releasable) && not (r .fields .releasable)
+
+  abbrev pub groupsDiffer : Bool
+  groupsDiffer = not (sameGroups (l .groups) (r .groups))
+
+  abbrev pub sameDataset : Bool
+  sameDataset = sameOption eqZ (l .fields .dataset) (r .fields .dataset)
+
+  -- 01: "Groups: right's if left is releasable, else left's"
+  abbrev pub groupsOf : List Group
+  groupsOf = cond (l .fields .releasable) (r .groups) (l .groups)
+
+-- a column count; an absent one is refused with 11 before it is used
+abbrev pub columnsOf : Sheet → ℕ
+columnsOf s = mathlib.Core.Option.Option·getD (s .fields .columns) 0
+
+abbrev pub columnsAbsent : Sheet → Bool
+columnsAbsent s = not (isPresent (s .fields .columns))
+
+module _ (l r : Sheet) where
+  -- 12: "Column counts differ and neither is 1"
+  abbrev pub columnsClash : Bool
+  columnsClash = not (eqb (columnsOf l) (columnsOf r)) && not (eqb (columnsOf l) 1) && not (eqb (columnsOf r) 1)
+
+  -- 01: "columns .. greater"
+  abbrev pub widest : ℕ
+  widest = max (columnsOf l) (columnsOf r)
+
+-- 01: "An operand spreads if releasable with 1 row"
+abbrev pub rowSpreads : Sheet → Bool
+rowSpreads s = s .fields .releasable && sameOption eqZ (s .fields .rows) (some (pos 1))
+
+module _ (l r : Sheet) where
+  -- 01: "If neither spreads and counts aren't equal and present": otherwise the counts agree
+  abbrev pub rowsAgree : Bool
+  rowsAgree = rowSpreads l || rowSpreads r || (isPresent (l .fields .rows) && sameOption eqZ (l .fields .rows) (r .fields .rows))
+
+  -- 01: "equal dataset ids (absent equals absent) give absent, else 13"
+  abbrev pub rowsClash : Bool
+  rowsClash = not (rowsAgree) && not (sameDataset l r)
+
+  -- 01: "Otherwise the greater, absent if either is"
+  abbrev pub rowsOf : Option ℤ
+  rowsOf = cond rowsAgree (greaterPresent (l .fields .rows) (r .fields .rows)) none

@@ -1,0 +1,1 @@
+// The components: shapes, natures, and the single step.
