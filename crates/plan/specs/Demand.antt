@@ -18,7 +18,7 @@ use Rattle.base.specs.declared.Component.{Component}
 use Rattle.base.specs.declared.Component.the-variants as C
 use Rattle.base.specs.declared.Numbered.{Numbered}
 use Rattle.base.specs.declared.Numbered.the-variants as N
-use Rattle.transforms.specs.Shape.{columnsOf}
+use Rattle.shape.specs.Shape.{columnsOf}
 use Rattle.plan.specs.Form.{nodeCount, leafCount, componentNumber, leftOf, rightOf}
 use Rattle.plan.specs.Walk.{sheetIn}
 use Rattle.plan.specs.Exact.{Row, resultAt}
@@ -113,7 +113,7 @@ Suits (N.Is C.Abs) l r = Unit {0}
 Suits (N.Is C.Add) l r = Unit {0}
 Suits (N.Is C.Subtract) l r = IsRange (l .nature) → IsRange (r .nature) → ⊥
 Suits (N.Is C.Multiply) l r = Unit {0}
-Suits (N.Is C.Divide) l r = (j : ℕ) → j < columnsOf r → OffZero (r .nature) j
+Suits (N.Is C.Divide) l r = (j : ℕ) → j < columnsOf (r .fields) → OffZero (r .nature) j
 Suits (N.Is C.Modulo) l r = Unit {0}
 Suits (N.Is C.Log) l r = Unit {0}
 Suits (N.Is C.Power) l r = (l .fields .dataType ≡ intType) × (r .fields .dataType ≡ intType)
@@ -122,19 +122,19 @@ Suits (N.Is C.Negative) l r = Unit {0}
 -- of a plan's bytes and its nodes' sheets
 pub record Premises (p : List ℕ) (sheet : ℕ → Sheet) : Type 0 where
   pub leafColumns : (k : ℕ) → k < leafCount p → StatesColumns (sheet k)
-  pub leafNatures : (k : ℕ) → k < leafCount p → WholeNature (sheet k .nature) (columnsOf (sheet k))
+  pub leafNatures : (k : ℕ) → k < leafCount p → WholeNature (sheet k .nature) (columnsOf (sheet k .fields))
   pub operandColumns : (k : ℕ) → leafCount p ≤ k → k < nodeCount p → ColumnsMatch (sheet (leftOf p k)) (sheet (rightOf p k))
   pub components : (k : ℕ) → leafCount p ≤ k → k < nodeCount p → Suits (componentOf (componentNumber p k)) (sheet (leftOf p k)) (sheet (rightOf p k))
 
 -- "one whole number for each leaf column, inside its range or among its categories"
 pub record Inside (p : List ℕ) (sheet : ℕ → Sheet) (row : Row) : Type 0 where
-  pub leaf : (k : ℕ) → k < leafCount p → (j : ℕ) → j < columnsOf (sheet k) → Keeps (sheet k .nature) j (row .number k j)
+  pub leaf : (k : ℕ) → k < leafCount p → (j : ℕ) → j < columnsOf (sheet k .fields) → Keeps (sheet k .nature) j (row .number k j)
 
 -- "every column of every node has an exact result, with no zero divisor on the way, and that result keeps to every bound and category list that the
 -- node's sheet states for its column"
 pub record Claim (p : List ℕ) (sheet : ℕ → Sheet) (row : Row) : Type 0 where
   pub columns : (k : ℕ) → k < nodeCount p → StatesColumns (sheet k)
-  pub result : (k : ℕ) → k < nodeCount p → (j : ℕ) → j < columnsOf (sheet k) → (v : ℤ) × (resultAt p sheet row k j ≡ some v) × Keeps (sheet k .nature) j v
+  pub result : (k : ℕ) → k < nodeCount p → (j : ℕ) → j < columnsOf (sheet k .fields) → (v : ℤ) × (resultAt p sheet row k j ≡ some v) × Keeps (sheet k .nature) j v
 
 -- 01: "Demand 3 reads leaf sheets as handed in and each step's sheet as its slot holds it after the call"
 unfoldable pub sheetOf : Form → List ℕ → List ℕ → List ℕ → ℕ → Sheet

@@ -14,8 +14,8 @@ use Rattle.base.specs.declared.Component.{Component}
 use Rattle.base.specs.declared.Component.the-variants as C
 use Rattle.base.specs.declared.Numbered.{Numbered}
 use Rattle.base.specs.declared.Numbered.the-variants as N
-use Rattle.transforms.specs.Shape.{columnsOf}
-use Rattle.transforms.specs.Categories.{remainder}
+use Rattle.shape.specs.Shape.{columnsOf}
+use Rattle.categories.specs.Categories.{remainder}
 use Rattle.plan.specs.Form.{nodeCount, leafCount, componentNumber, leftOf, rightOf}
 
 -- 01: "A zero divisor .. leaves none"
@@ -62,14 +62,14 @@ columnOf rs j = cond (eqb (length rs) 1) (getD rs 0 none) (getD rs j none)
 module _ (p : List ℕ) (sheet : ℕ → Sheet) (row : Row) where
   -- 01: "A leaf column's result is the row's number"
   abbrev pub leafResults : ℕ → Results
-  leafResults k = listFrom (columnsOf (sheet k)) 0 (λ j. some (row .number k j))
+  leafResults k = listFrom (columnsOf (sheet k .fields)) 0 (λ j. some (row .number k j))
 
   -- 01: "column j of a step takes each operand's column j or its only one"
   abbrev pub stepResults : List Results → ℕ → Results
   stepResults done k =
       let xs = getD done (leftOf p k) [] in
       let ys = getD done (rightOf p k) [] in
-      listFrom (columnsOf (sheet k)) 0 (λ j. exactOf (componentOf (componentNumber p k)) (columnOf xs j) (columnOf ys j))
+      listFrom (columnsOf (sheet k .fields)) 0 (λ j. exactOf (componentOf (componentNumber p k)) (columnOf xs j) (columnOf ys j))
 
   abbrev pub nodeResults : List Results → ℕ → Results
   nodeResults done k = cond (ltb k (leafCount p)) (leafResults k) (stepResults done k)

@@ -3,6 +3,7 @@ use Rattle.bytes.specs.Deliver as Deliver
 use Rattle.bytes.specs.Le as Le
 use Rattle.numbers.specs.Checked as Checked
 use Rattle.numbers.specs.Result as Result
+use Rattle.utilities.specs.Columns as Columns
 use Rattle.utilities.specs.Lists as Lists
 use Rattle.base.specs.Bounds as Bounds
 use Rattle.base.specs.Checks as Checks
@@ -10,15 +11,15 @@ use Rattle.base.specs.Components as Components
 use Rattle.base.specs.Decode as Decode
 use Rattle.base.specs.Encode as Encode
 use Rattle.ends.specs.Ends as Ends
-use Rattle.transforms.specs.Categories as Categories
-use Rattle.transforms.specs.Columns as Columns
+use Rattle.shape.specs.Fields as Fields
+use Rattle.shape.specs.Shape as Shape
+use Rattle.ranges.specs.Ranges as Ranges
+use Rattle.categories.specs.Categories as Categories
 use Rattle.transforms.specs.Derive as Derive
-use Rattle.transforms.specs.Fields as Fields
 use Rattle.transforms.specs.Natures as Natures
-use Rattle.transforms.specs.Shape as Shape
 use Rattle.transforms.specs.Single as Single
 use lib.Ieee as Ieee
 
 unfoldable pub computing : Unit {0}
-unfolding Deliver.delivered Le.leAt Le.leBytes Checked.checkedOf Checked.quotientOf Result.checked Lists.listFrom Lists.every Lists.any Lists.has Lists.noted Lists.firstsFrom Lists.firsts Lists.repeated Lists.standardized Bounds.everyEntry Bounds.lowersPresent Bounds.uppersPresent Bounds.wholeLowersPresent Bounds.lowersPositive Bounds.lowersNonNegative Bounds.allSuitAsBase Checks.holdsFrom Checks.sizesFail Checks.bytesPermitted Checks.valuesPermitted Checks.groupsPermitted Checks.rangePermitted Checks.listsPermitted Checks.naturePermitted Checks.fieldsFail Checks.crossed Checks.unbounded Checks.boundsFail Checks.read Components.componentOf Decode.optionAt Decode.listAt Decode.entries Decode.lists Decode.natureIn Decode.fieldsIn Decode.groupsIn Decode.decode Encode.joined Encode.endBytes Encode.total Encode.rangeBytes Encode.numbersFrom Encode.listsBytes Encode.natureBytes Encode.sizeBytes Encode.markBytes Encode.valueBytes Encode.groupBytes Encode.encode Ends.fromTwo Ends.fromOne Ends.fromBoth Ends.addEnds Ends.subEnds Ends.negEnds Ends.absLower Ends.absUpper Ends.absEnds Ends.corners Ends.mulCorners Ends.mulEnds Ends.divCorners Ends.divUpper Ends.divLower Ends.divPresent Ends.divBy Ends.divEnds Ends.modEnds Ends.endRule Categories.categoryRule Categories.row Categories.pairs Categories.product Categories.combined Categories.mapped Categories.counted Columns.eachPair Columns.each Derive.deriveUnary Derive.derivePair Derive.deriveCopy Derive.derive Fields.mayMeetZero Fields.addsNullity Fields.pairFields Fields.copyFields Fields.numbered Natures.wholeRule Natures.rangePair Natures.rangeAlone Natures.listsPair Natures.listsAlone Natures.wholeRangeWith Natures.floatRangeWith Natures.listsWith Natures.binaryNature Natures.unaryNature Shape.sameGroups Single.stepSheet Single.step Single.delivery Single.singleOf Single.single Ieee.ofBits Ieee.toBits Ieee.add Ieee.sub Ieee.mul Ieee.div Ieee.neg Ieee.lt Ieee.eq Ieee.isNan
+unfolding Deliver.delivered Le.leAt Le.leBytes Checked.checkedOf Checked.quotientOf Result.checked Columns.eachPair Columns.each Lists.listFrom Lists.every Lists.any Lists.has Lists.noted Lists.firstsFrom Lists.firsts Lists.repeated Lists.standardized Bounds.everyEntry Bounds.lowersPresent Bounds.uppersPresent Bounds.wholeLowersPresent Bounds.lowersPositive Bounds.lowersNonNegative Bounds.allSuitAsBase Checks.holdsFrom Checks.sizesFail Checks.bytesPermitted Checks.valuesPermitted Checks.groupsPermitted Checks.rangePermitted Checks.listsPermitted Checks.naturePermitted Checks.fieldsFail Checks.crossed Checks.unbounded Checks.boundsFail Checks.read Components.componentOf Decode.optionAt Decode.listAt Decode.entries Decode.lists Decode.natureIn Decode.fieldsIn Decode.groupsIn Decode.decode Encode.joined Encode.endBytes Encode.total Encode.rangeBytes Encode.numbersFrom Encode.listsBytes Encode.natureBytes Encode.sizeBytes Encode.markBytes Encode.valueBytes Encode.groupBytes Encode.encode Ends.fromTwo Ends.fromOne Ends.fromBoth Ends.addEnds Ends.subEnds Ends.negEnds Ends.absLower Ends.absUpper Ends.absEnds Ends.corners Ends.mulCorners Ends.mulEnds Ends.divCorners Ends.divUpper Ends.divLower Ends.divPresent Ends.divBy Ends.divEnds Ends.modEnds Ends.endRule Fields.mayMeetZero Fields.addsNullity Fields.pairFields Fields.copyFields Fields.numbered Shape.sameGroups Ranges.wholeRule Ranges.rangePair Ranges.rangeAlone Categories.categoryRule Categories.row Categories.pairs Categories.product Categories.combined Categories.mapped Categories.counted Derive.deriveUnary Derive.derivePair Derive.deriveCopy Derive.derive Natures.listsPair Natures.listsAlone Natures.wholeRangeWith Natures.floatRangeWith Natures.listsWith Natures.binaryNature Natures.unaryNature Single.stepSheet Single.step Single.delivery Single.singleOf Single.single Ieee.ofBits Ieee.toBits Ieee.add Ieee.sub Ieee.mul Ieee.div Ieee.neg Ieee.lt Ieee.eq Ieee.isNan
 computing = tt

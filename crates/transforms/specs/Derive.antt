@@ -5,10 +5,10 @@ use Rattle.numbers.specs.Result.{Result, ok, refused, andThen, Check, checked}
 use Rattle.base.specs.Sheet.{Sheet}
 use Rattle.base.specs.declared.Component.{Component}
 use Rattle.base.specs.declared.Component.the-variants as C
-use Rattle.transforms.specs.Shape.{columnsOf, widest}
+use Rattle.shape.specs.Shape.{columnsOf, widest}
 use Rattle.transforms.specs.Natures.{unaryNature, binaryNature}
 use Rattle.transforms.specs.Orders.{unaryChecks, pairChecks, copyChecks, moduloChecks, logChecks, powerChecks, lastChecks}
-use Rattle.transforms.specs.Fields.{pairSheet, copySheet, unarySheet}
+use Rattle.shape.specs.Fields.{pairSheet, copySheet, unarySheet}
 
 -- `limit` is how many categories a result may hold
 module _ (limit : ℕ) (c : Component) where
@@ -16,19 +16,19 @@ module _ (limit : ℕ) (c : Component) where
   unfoldable pub deriveUnary : Sheet → Result Sheet
   deriveUnary s =
       checked (unaryChecks s)
-      (andThen (unaryNature limit c (s .fields .dataType) (columnsOf s) (s .nature)) (λ k. ok (unarySheet s k)))
+      (andThen (unaryNature limit c (s .fields .dataType) (columnsOf (s .fields)) (s .nature)) (λ k. ok (unarySheet s k)))
 
   -- Add, Subtract, Multiply, Divide: in list order
   unfoldable pub derivePair : Sheet → Sheet → Result Sheet
   derivePair l r =
       checked (pairChecks l r)
-      (andThen (binaryNature limit c (l .fields .dataType) (widest l r) (l .nature) (r .nature)) (λ k. ok (pairSheet c l r k)))
+      (andThen (binaryNature limit c (l .fields .dataType) (widest (l .fields) (r .fields)) (l .nature) (r .nature)) (λ k. ok (pairSheet c l r k)))
 
   -- Modulo, Log, Power: 6, 7, 14, 15, 16, 11, then 17 to 26, then 8
   unfoldable pub deriveCopy : List Check → Sheet → Sheet → Result Sheet
   deriveCopy boundChecks l r =
       checked (copyChecks l r boundChecks)
-      (andThen (binaryNature limit c (l .fields .dataType) (columnsOf l) (l .nature) (r .nature)) (λ k. checked (lastChecks l r) (ok (copySheet l r k))))
+      (andThen (binaryNature limit c (l .fields .dataType) (columnsOf (l .fields)) (l .nature) (r .nature)) (λ k. checked (lastChecks l r) (ok (copySheet l r k))))
 
 unfoldable pub derive : ℕ → Component → Sheet → Sheet → Result Sheet
 derive limit C.Abs l r = deriveUnary limit C.Abs l

@@ -1,9 +1,5 @@
-pub mod Columns
-pub mod Shape
-pub mod Categories
 pub mod Natures
 pub mod Orders
-pub mod Fields
 pub mod Derive
 pub mod Single
 pub mod Computing

@@ -1,5 +1,5 @@
 -- `propagate_unary_nature` and `propagate_binary_nature`: 17 to 26, and the nature derived.
-use mathlib.Core.Bool.{Bool, true, false, cond, not}
+use mathlib.Core.Bool.{Bool, not}
 use mathlib.Core.List.{List, [], _∷_}
 use mathlib.Core.Option.{Option, none, some}
 use Prim.Native.Nat.{ℕ}
@@ -7,37 +7,14 @@ use lib.IntN.{ℤ}
 use lib.Dec.{eqb}
 use lib.Ieee.{Float}
 use Rattle.numbers.specs.Result.{Result, ok, refused, andThen, check, checked}
-use Rattle.numbers.specs.Kind.{Kind, Span, whole, float}
-use Rattle.utilities.specs.Lists.{repeated}
-use Rattle.base.specs.Form.{intType, floatListsNature}
+use Rattle.numbers.specs.Kind.{Span, whole, float}
+use Rattle.base.specs.Form.{floatListsNature}
 use Rattle.base.specs.Sheet.{Nature, absent, wholeRange, floatRange, wholeLists, boolLists, floatLists}
 use Rattle.base.specs.Encode.{natureNumber, entryCount}
 use Rattle.base.specs.declared.Component.{Component}
-use Rattle.base.specs.declared.Component.the-variants as C
-use Rattle.ends.specs.Ends.{endRule, unknown}
-use Rattle.transforms.specs.Columns.{spreads, each, eachPair}
-use Rattle.transforms.specs.Categories.{categoryRule, combined, mapped, counted}
-
--- the end rule on whole ranges: Modulo of type Float has none for them, and both ends are absent
-unfoldable pub wholeRule : Component → ℕ → Span ℤ → Span ℤ → Result (Span ℤ)
-wholeRule C.Modulo type x y = cond (eqb type intType) (endRule whole C.Modulo x y) unknown
-wholeRule C.Abs type x y = endRule whole C.Abs x y
-wholeRule C.Add type x y = endRule whole C.Add x y
-wholeRule C.Subtract type x y = endRule whole C.Subtract x y
-wholeRule C.Multiply type x y = endRule whole C.Multiply x y
-wholeRule C.Divide type x y = endRule whole C.Divide x y
-wholeRule C.Log type x y = endRule whole C.Log x y
-wholeRule C.Power type x y = endRule whole C.Power x y
-wholeRule C.Negative type x y = endRule whole C.Negative x y
-
--- 01: "Lists of one entry spread over the columns", after 18 has passed the lists, left's first
-unfoldable pub rangePair : {E : Type 0} → (Span E → Span E → Result (Span E)) → ℕ → List (Span E) → List (Span E) → Result (List (Span E))
-rangePair rule columns xs ys =
-    checked (check 18 (not (spreads columns xs)) ∷ check 18 (not (spreads columns ys)) ∷ [])
-    (eachPair rule (repeated columns xs) (repeated columns ys))
-
-unfoldable pub rangeAlone : {E : Type 0} → (Span E → Span E → Result (Span E)) → ℕ → List (Span E) → Result (List (Span E))
-rangeAlone rule columns xs = checked (check 18 (not (spreads columns xs)) ∷ []) (each (λ x. rule x x) (repeated columns xs))
+use Rattle.ends.specs.Ends.{endRule}
+use Rattle.ranges.specs.Ranges.{wholeRule, rangePair, rangeAlone}
+use Rattle.categories.specs.Categories.{categoryRule, combined, mapped, counted}
 
 -- 22: "The component has no rule for this category kind"; 01: "Bool has none anywhere"
 abbrev pub ruleFor : Component → ℕ → Nature → Option (ℤ → ℤ → Result ℤ)

@@ -9,51 +9,55 @@ use lib.Ieee.{binary64, ofBits}
 use Rattle.numbers.specs.Result.{Check, check}
 use Rattle.numbers.specs.Kind.{oneFloat}
 use Rattle.base.specs.Form.{floatType, intType}
-use Rattle.base.specs.Sheet.{Sheet, isWholeRange}
+use Rattle.base.specs.Sheet.{Fields, Sheet, isWholeRange}
 use Rattle.base.specs.Bounds.{lowersPresent, uppersPresent, wholeLowersPresent, lowersPositive, lowersNonNegative, allSuitAsBase}
-use Rattle.transforms.specs.Shape.{bothPrivate, groupsDiffer, sameDataset, columnsAbsent, columnsClash, rowsClash}
+use Rattle.shape.specs.Shape.{bothPrivate, sameGroups, sameDataset, columnsAbsent, columnsClash, rowsClash}
 
 -- 6: "An operand that isn't releasable has an aggregator"
-abbrev pub aggregated : Sheet → Bool
-aggregated s = not (s .fields .releasable) && not (eqb (s .fields .aggregator) 0)
+abbrev pub aggregated : Fields → Bool
+aggregated x = not (x .releasable) && not (eqb (x .aggregator) 0)
 
 -- 7: "a sample proportion present and not equal to 1"
 abbrev pub notOne : Option ℕ → Bool
 notOne none = false
 notOne (some bits) = not (Ieee.eq (ofBits binary64 bits) oneFloat)
 
-abbrev pub sampled : Sheet → Bool
-sampled s = not (s .fields .releasable) && notOne (s .fields .sample)
+abbrev pub sampled : Fields → Bool
+sampled x = not (x .releasable) && notOne (x .sample)
 
 -- 6 and 7 of one operand
 abbrev pub operandChecks : Sheet → List Check
-operandChecks s = check 6 (aggregated s) ∷ check 7 (sampled s) ∷ []
+operandChecks s = check 6 (aggregated (s .fields)) ∷ check 7 (sampled (s .fields)) ∷ []
 
 module _ (l r : Sheet) where
   -- 8: "Neither operand is releasable and their groups differ"
   abbrev pub groupsClash : Bool
-  groupsClash = bothPrivate l r && groupsDiffer l r
+  groupsClash = bothPrivate (l .fields) (r .fields) && not (sameGroups (l .groups) (r .groups))
 
-  -- 14: "Others need equal types"; "Modulo (types both Int or both Float)", "Log (left type Float)", "Power (both Int or both Float)"
-  abbrev pub typesDiffer : Bool
-  typesDiffer = not (eqb (l .fields .dataType) (r .fields .dataType))
+  -- 9: "Neither is releasable and dataset ids differ"
+  abbrev pub datasetsClash : Bool
+  datasetsClash = bothPrivate (l .fields) (r .fields) && not (sameDataset (l .fields) (r .fields))
 
-  abbrev pub bothOf : ℕ → Bool
-  bothOf type = eqb (l .fields .dataType) type && eqb (r .fields .dataType) type
+  -- 10: "Neither is releasable and c-stabilities differ"
+  abbrev pub stabilitiesClash : Bool
+  stabilitiesClash = bothPrivate (l .fields) (r .fields) && not (eqb (l .fields .cStability) (r .fields .cStability))
 
-  -- 01: "Components 2 to 5 check in list order"; 17 to 26 follow
+  -- 01: "Components 2 to 5 check in list order"; 17 to 26 follow. 14: "Others need equal types"
   abbrev pub pairChecks : List Check
   pairChecks =
       operandChecks l
       ++ operandChecks r
       ++ (check 8 groupsClash
-      ∷ check 9 (bothPrivate l r && not (sameDataset l r))
-      ∷ check 10 (bothPrivate l r && not (eqb (l .fields .cStability) (r .fields .cStability)))
-      ∷ check 11 (columnsAbsent l || columnsAbsent r)
-      ∷ check 12 (columnsClash l r)
-      ∷ check 13 (rowsClash l r)
-      ∷ check 14 typesDiffer
+      ∷ check 9 datasetsClash
+      ∷ check 10 stabilitiesClash
+      ∷ check 11 (columnsAbsent (l .fields) || columnsAbsent (r .fields))
+      ∷ check 12 (columnsClash (l .fields) (r .fields))
+      ∷ check 13 (rowsClash (l .fields) (r .fields))
+      ∷ check 14 (not (eqb (l .fields .dataType) (r .fields .dataType)))
       ∷ [])
+
+  abbrev pub bothOf : ℕ → Bool
+  bothOf type = eqb (l .fields .dataType) type && eqb (r .fields .dataType) type
 
   -- 14 to 16 of Modulo: "types both Int or both Float", "right lowers all above 0"
   abbrev pub moduloChecks : List Check
@@ -83,11 +87,11 @@ module _ (l r : Sheet) where
 
   -- 01: "Modulo, Log and Power check 6, 7, 14, 15, 16, 11, then 17 to 26, then 8"; for 11 "only left's is read"
   abbrev pub copyChecks : List Check → List Check
-  copyChecks boundChecks = operandChecks l ++ operandChecks r ++ boundChecks ++ (check 11 (columnsAbsent l) ∷ [])
+  copyChecks boundChecks = operandChecks l ++ operandChecks r ++ boundChecks ++ (check 11 (columnsAbsent (l .fields)) ∷ [])
 
   abbrev pub lastChecks : List Check
   lastChecks = check 8 groupsClash ∷ []
 
 -- 01: "Abs and Negative check 6, 11, then 18 to 26"
 abbrev pub unaryChecks : Sheet → List Check
-unaryChecks s = check 6 (aggregated s) ∷ check 11 (columnsAbsent s) ∷ []
+unaryChecks s = check 6 (aggregated (s .fields)) ∷ check 11 (columnsAbsent (s .fields)) ∷ []

@@ -14,7 +14,7 @@ use Rattle.base.specs.Components.{componentOf, isUnary}
 use Rattle.base.specs.declared.Component.{Component}
 use Rattle.base.specs.declared.Numbered.{Numbered}
 use Rattle.base.specs.declared.Numbered.the-variants as N
-use Rattle.transforms.specs.Fields.{numbered}
+use Rattle.shape.specs.Fields.{numbered}
 use Rattle.transforms.specs.Derive.{derive}
 
 -- the operands' sheets. 01: "Checks 3 to 5 finish on left before right"; "Abs and Negative don't read the right sheet"

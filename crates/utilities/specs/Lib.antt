@@ -1,1 +1,3 @@
 pub mod Lists
+pub mod Noted
+pub mod Columns

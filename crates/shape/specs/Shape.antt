@@ -1,13 +1,13 @@
 -- `propagate_binary_group_id` and `propagate_binary_shape`: groups, columns and rows of two operands.
 use mathlib.Core.Bool.{Bool, true, false, cond, not, _&&_, _||_}
 use mathlib.Core.List.{List, [], _∷_}
-use mathlib.Core.Option.{Option, none, some}
+use mathlib.Core.Option.{Option, none, some, Option·getD}
 use Prim.Native.Nat.{ℕ, max}
 use lib.IntN.{ℤ, pos}
 use lib.Dec.{eqb}
 use lib.Signed.{ltZ}
 use Rattle.numbers.specs.Kind.{eqZ}
-use Rattle.base.specs.Sheet.{Group, Sheet}
+use Rattle.base.specs.Sheet.{Group, Fields, Sheet}
 use Rattle.base.specs.Bounds.{isPresent}
 
 -- "absent equals absent"
@@ -42,50 +42,46 @@ sameGroups [] (b ∷ bs) = false
 sameGroups (a ∷ as′) [] = false
 sameGroups (a ∷ as′) (b ∷ bs) = sameGroup a b && sameGroups as′ bs
 
-module _ (l r : Sheet) where
-  -- 01, 8 to 10: "Neither operand is releasable and .."
-  abbrev pub bothPrivate : Bool
-  bothPrivate = not (l .fields .releasable) && not (r .fields .releasable)
+-- 01: "Groups: right's if left is releasable, else left's"
+abbrev pub groupsOf : Sheet → Sheet → List Group
+groupsOf l r = cond (l .fields .releasable) (r .groups) (l .groups)
 
-  abbrev pub groupsDiffer : Bool
-  groupsDiffer = not (sameGroups (l .groups) (r .groups))
+module _ (x y : Fields) where
+  -- 8 to 10: "Neither operand is releasable and .."
+  abbrev pub bothPrivate : Bool
+  bothPrivate = not (x .releasable) && not (y .releasable)
 
   abbrev pub sameDataset : Bool
-  sameDataset = sameOption eqZ (l .fields .dataset) (r .fields .dataset)
-
-  -- 01: "Groups: right's if left is releasable, else left's"
-  abbrev pub groupsOf : List Group
-  groupsOf = cond (l .fields .releasable) (r .groups) (l .groups)
+  sameDataset = sameOption eqZ (x .dataset) (y .dataset)
 
 -- a column count; an absent one is refused with 11 before it is used
-abbrev pub columnsOf : Sheet → ℕ
-columnsOf s = mathlib.Core.Option.Option·getD (s .fields .columns) 0
+abbrev pub columnsOf : Fields → ℕ
+columnsOf x = Option·getD (x .columns) 0
 
-abbrev pub columnsAbsent : Sheet → Bool
-columnsAbsent s = not (isPresent (s .fields .columns))
+abbrev pub columnsAbsent : Fields → Bool
+columnsAbsent x = not (isPresent (x .columns))
 
-module _ (l r : Sheet) where
+-- 01: "An operand spreads if releasable with 1 row"
+abbrev pub rowSpreads : Fields → Bool
+rowSpreads x = x .releasable && sameOption eqZ (x .rows) (some (pos 1))
+
+module _ (x y : Fields) where
   -- 12: "Column counts differ and neither is 1"
   abbrev pub columnsClash : Bool
-  columnsClash = not (eqb (columnsOf l) (columnsOf r)) && not (eqb (columnsOf l) 1) && not (eqb (columnsOf r) 1)
+  columnsClash = not (eqb (columnsOf x) (columnsOf y)) && not (eqb (columnsOf x) 1) && not (eqb (columnsOf y) 1)
 
   -- 01: "columns .. greater"
   abbrev pub widest : ℕ
-  widest = max (columnsOf l) (columnsOf r)
+  widest = max (columnsOf x) (columnsOf y)
 
--- 01: "An operand spreads if releasable with 1 row"
-abbrev pub rowSpreads : Sheet → Bool
-rowSpreads s = s .fields .releasable && sameOption eqZ (s .fields .rows) (some (pos 1))
-
-module _ (l r : Sheet) where
   -- 01: "If neither spreads and counts aren't equal and present": otherwise the counts agree
   abbrev pub rowsAgree : Bool
-  rowsAgree = rowSpreads l || rowSpreads r || (isPresent (l .fields .rows) && sameOption eqZ (l .fields .rows) (r .fields .rows))
+  rowsAgree = rowSpreads x || rowSpreads y || (isPresent (x .rows) && sameOption eqZ (x .rows) (y .rows))
 
   -- 01: "equal dataset ids (absent equals absent) give absent, else 13"
   abbrev pub rowsClash : Bool
-  rowsClash = not (rowsAgree) && not (sameDataset l r)
+  rowsClash = not rowsAgree && not (sameDataset x y)
 
   -- 01: "Otherwise the greater, absent if either is"
   abbrev pub rowsOf : Option ℤ
-  rowsOf = cond rowsAgree (greaterPresent (l .fields .rows) (r .fields .rows)) none
+  rowsOf = cond rowsAgree (greaterPresent (x .rows) (y .rows)) none

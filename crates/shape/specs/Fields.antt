@@ -11,7 +11,7 @@ use Rattle.utilities.specs.Lists.{any}
 use Rattle.base.specs.Sheet.{Nature, absent, wholeRange, floatRange, wholeLists, boolLists, floatLists, Fields, Sheet}
 use Rattle.base.specs.declared.Component.{Component}
 use Rattle.base.specs.declared.Component.the-variants as C
-use Rattle.transforms.specs.Shape.{groupsOf, widest, rowsOf, greaterOption}
+use Rattle.shape.specs.Shape.{groupsOf, widest, rowsOf, greaterOption}
 
 -- 01: "a float range has a column with lower < 0 < upper, lower > 0 with no upper, upper < 0 with no lower, or neither end"
 abbrev pub spansZero : Option Float → Option Float → Bool
@@ -45,52 +45,46 @@ addsNullity C.Power k = false
 addsNullity C.Negative k = false
 
 -- 01: "2 to 5: nullity either; releasable and not empty both; c-stability, columns, dimensionality greater (absent least); aggregator absent; type,
--- dataset, sample from left; .. ordered 1"
-unfoldable pub pairFields : Component → Sheet → Sheet → Fields
-pairFields c l r =
-    let x = l .fields in
-    let y = r .fields in
-    record {
-      dataType = x .dataType;
-      nullity = x .nullity || y .nullity || addsNullity c (r .nature);
-      releasable = x .releasable && y .releasable;
-      notEmpty = x .notEmpty && y .notEmpty;
-      ordered = true;
-      cStability = max (x .cStability) (y .cStability);
-      aggregator = 0;
-      rows = rowsOf l r;
-      columns = some (widest l r);
-      dataset = x .dataset;
-      dimensionality = greaterOption (x .dimensionality) (y .dimensionality);
-      sample = x .sample;
-    }
+-- dataset, sample from left; .. ordered 1". `more` is what Divide adds to the nullity
+unfoldable pub pairFields : Bool → Fields → Fields → Fields
+pairFields more x y = record {
+  dataType = x .dataType;
+  nullity = x .nullity || y .nullity || more;
+  releasable = x .releasable && y .releasable;
+  notEmpty = x .notEmpty && y .notEmpty;
+  ordered = true;
+  cStability = max (x .cStability) (y .cStability);
+  aggregator = 0;
+  rows = rowsOf x y;
+  columns = some (widest x y);
+  dataset = x .dataset;
+  dimensionality = greaterOption (x .dimensionality) (y .dimensionality);
+  sample = x .sample;
+}
 
 -- 01: "6 to 8 copy left, but for nature, not empty (both), dimensionality (greater), groups"
-unfoldable pub copyFields : Sheet → Sheet → Fields
-copyFields l r =
-    let x = l .fields in
-    let y = r .fields in
-    record {
-      dataType = x .dataType;
-      nullity = x .nullity;
-      releasable = x .releasable;
-      notEmpty = x .notEmpty && y .notEmpty;
-      ordered = x .ordered;
-      cStability = x .cStability;
-      aggregator = x .aggregator;
-      rows = x .rows;
-      columns = x .columns;
-      dataset = x .dataset;
-      dimensionality = greaterOption (x .dimensionality) (y .dimensionality);
-      sample = x .sample;
-    }
+unfoldable pub copyFields : Fields → Fields → Fields
+copyFields x y = record {
+  dataType = x .dataType;
+  nullity = x .nullity;
+  releasable = x .releasable;
+  notEmpty = x .notEmpty && y .notEmpty;
+  ordered = x .ordered;
+  cStability = x .cStability;
+  aggregator = x .aggregator;
+  rows = x .rows;
+  columns = x .columns;
+  dataset = x .dataset;
+  dimensionality = greaterOption (x .dimensionality) (y .dimensionality);
+  sample = x .sample;
+}
 
 -- the sheets of components 2 to 5, of 6 to 8, and of 1 and 9; the call's node number enters in `numbered`
 abbrev pub pairSheet : Component → Sheet → Sheet → Nature → Sheet
-pairSheet c l r k = record { fields = pairFields c l r; node = l .node; groups = groupsOf l r; nature = k }
+pairSheet c l r k = record { fields = pairFields (addsNullity c (r .nature)) (l .fields) (r .fields); node = l .node; groups = groupsOf l r; nature = k }
 
 abbrev pub copySheet : Sheet → Sheet → Nature → Sheet
-copySheet l r k = record { fields = copyFields l r; node = l .node; groups = groupsOf l r; nature = k }
+copySheet l r k = record { fields = copyFields (l .fields) (r .fields); node = l .node; groups = groupsOf l r; nature = k }
 
 -- 01: "Abs and Negative copy left but for nature"
 abbrev pub unarySheet : Sheet → Nature → Sheet

@@ -14,7 +14,7 @@ use Rattle.base.specs.Form.{intType}
 use Rattle.base.specs.Encode.{total}
 use Rattle.base.specs.declared.Component.{Component}
 use Rattle.base.specs.declared.Component.the-variants as C
-use Rattle.transforms.specs.Columns.{each, eachPair}
+use Rattle.utilities.specs.Columns.{each, eachPair}
 
 -- the magnitude, which -2 ^ 63 does not have in 64 signed bits
 abbrev pub absWhole : ℤ → Result ℤ

@@ -1,0 +1,1 @@
+// Categories, mapped and combined.

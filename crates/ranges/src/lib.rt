@@ -1,0 +1,1 @@
+// Ranges, column by column.

@@ -1,0 +1,1 @@
+// Groups, columns, rows and fields of two operands.

@@ -1,0 +1,43 @@
+-- Laws of `repeated` and `standardized`. Assumes nothing.
+use mathlib.Core.Path.{_≡_, refl, sym, ap, _∙_}
+use mathlib.Core.Bool.{Bool}
+use mathlib.Core.List.{List, [], _∷_, map}
+use Prim.Native.Nat.{ℕ, _<_}
+use lib.ListN.{length, getD, replicate, length-map, length-replicate, getD-replicate, List·getD-map}
+use Rattle.utilities.specs.Lists.{firstsFrom, firsts, repeated, standardized}
+
+module _ {ℓ} {X : Type ℓ} (columns : ℕ) where
+  pub repeated-length : (l : X) → length (repeated columns (l ∷ [])) ≡ columns
+  unfolding repeated
+  repeated-length l = length-replicate columns l
+
+  pub repeated-at : (l : X) (j : ℕ) (d : X) → j < columns → getD (repeated columns (l ∷ [])) j d ≡ l
+  unfolding repeated
+  repeated-at l j d h = getD-replicate columns j l d h
+
+  -- other counts stay
+  pub repeated-other : (ls : List X) → (length ls ≡ 1 → ⊥) → repeated columns ls ≡ ls
+  unfolding repeated
+  repeated-other [] h = refl
+  repeated-other (l ∷ []) h = absurd (h refl)
+  repeated-other (l ∷ m ∷ ls) h = refl
+
+  -- a list for each column stays, also where there is one column
+  pub repeated-full : (ls : List X) → length ls ≡ columns → repeated columns ls ≡ ls
+  unfolding repeated
+  repeated-full [] h = refl
+  repeated-full (l ∷ []) h = ap (λ (n : ℕ). replicate n l) (sym h)
+  repeated-full (l ∷ m ∷ ls) h = refl
+
+module _ {X : Type 0} (same : X → X → Bool) (columns : ℕ) where
+  pub standardized-one : (l : List X) (j : ℕ) (d : List X) → j < columns → getD (standardized same columns (l ∷ [])) j d ≡ firsts same l
+  unfolding standardized
+  standardized-one l j d h = repeated-at columns (firsts same l) j d h
+
+  pub standardized-other : (ls : List (List X)) → (length ls ≡ 1 → ⊥) → standardized same columns ls ≡ map (firsts same) ls
+  unfolding standardized
+  standardized-other ls h = repeated-other columns (map (firsts same) ls) (λ e. h (sym (length-map ls (firsts same)) ∙ e))
+
+  pub standardized-at : (ls : List (List X)) (j : ℕ) → (length ls ≡ 1 → ⊥) → getD (standardized same columns ls) j [] ≡ firsts same (getD ls j [])
+  unfolding firsts firstsFrom
+  standardized-at ls j h = ap (λ (l : List (List X)). getD l j []) (standardized-other ls h) ∙ List·getD-map (firsts same) ls j []
