@@ -1,0 +1,86 @@
+-- A nature as it is written: its number, its sizes, and the bytes of its two arrays.
+use mathlib.Core.List.{List, [], _++_}
+use Prim.Native.Nat.{ℕ, _+_, _-_, _*_}
+use lib.IntN.{ℤ}
+use lib.ListN.{length, take, replicate}
+use Rattle.bytes.specs.Le.{leBytes}
+use Rattle.numbers.specs.Result.{Result, ok, refused, andThen}
+use Rattle.numbers.specs.Kind.{Span}
+use Rattle.base.specs.Form.{Form, place, fieldsEnd, absentNature, wholeRangeNature, floatRangeNature, wholeListsNature}
+use Rattle.base.specs.Sheet.{Group, Nature, absent, wholeRange, floatRange, wholeLists, boolLists, floatLists, Fields}
+use Rattle.base.specs.Decode.{asBits}
+use Rattle.base.specs.Encode.{joined, endBytes, wholeBits, floatBits, numbersFrom, markBytes, valueBytes, groupBytes, natureNumber, entryCount, valueCount}
+use Rattle.writer.specs.declared.Derived.{Derived}
+use Rattle.writer.specs.declared.Derived.the-variants as D
+
+pub record Written : Type 0 where
+  pub nature : ℕ
+  -- the list count n and the category count t
+  pub entries : ℕ
+  pub values : ℕ
+  -- lowers and uppers, or list numbers and values
+  pub first : List ℕ
+  pub second : List ℕ
+
+-- 01: "n lowers and n uppers, each a mark and 64 bits"
+unfoldable pub lowersOf : {X : Type 0} → (X → ℕ) → List (Span X) → List ℕ
+lowersOf bits rs = joined (λ r. endBytes bits (r .lower)) rs
+
+unfoldable pub uppersOf : {X : Type 0} → (X → ℕ) → List (Span X) → List ℕ
+uppersOf bits rs = joined (λ r. endBytes bits (r .upper)) rs
+
+-- 01: "t values (64 bits ..)"
+unfoldable pub valuesOf : {X : Type 0} → (X → ℕ) → List (List X) → List ℕ
+valuesOf bits ls = joined (λ l. joined (λ v. leBytes 8 (bits v)) l) ls
+
+module _ (F : Form) where
+  abbrev pub firstArray : Nature → List ℕ
+  firstArray absent = []
+  firstArray (wholeRange rs) = lowersOf wholeBits rs
+  firstArray (floatRange rs) = lowersOf floatBits rs
+  firstArray (wholeLists ls) = numbersFrom F 0 ls
+  firstArray (boolLists ls) = numbersFrom F 0 ls
+  firstArray (floatLists ls) = numbersFrom F 0 ls
+
+  abbrev pub secondArray : Nature → List ℕ
+  secondArray absent = []
+  secondArray (wholeRange rs) = uppersOf wholeBits rs
+  secondArray (floatRange rs) = uppersOf floatBits rs
+  secondArray (wholeLists ls) = valuesOf wholeBits ls
+  secondArray (boolLists ls) = valuesOf asBits ls
+  secondArray (floatLists ls) = valuesOf asBits ls
+
+  abbrev pub writtenOf : Nature → Written
+  writtenOf k = record {
+    nature = natureNumber k;
+    entries = entryCount k;
+    values = valueCount k;
+    first = firstArray k;
+    second = secondArray k;
+  }
+
+  -- what a rule's nature comes to in writing
+  abbrev pub inWriting : Result Nature → Result Written
+  inWriting g = andThen g (λ k. ok (writtenOf k))
+
+  -- the bytes of a sheet with a nature in writing
+  unfoldable pub sheetFrom : Fields → ℤ → List Group → Written → List ℕ
+  sheetFrom fields node groups w =
+      leBytes (F .sizeWidth) (length groups)
+      ++ leBytes (F .sizeWidth) (w .entries)
+      ++ leBytes (F .sizeWidth) (w .values)
+      ++ markBytes (w .nature) fields
+      ++ valueBytes fields
+      ++ leBytes 8 (wholeBits node)
+      ++ replicate (F .arraysAt - place F fieldsEnd) 0
+      ++ groupBytes groups
+      ++ w .first
+      ++ w .second
+
+  -- what a derived nature says, with the two buffers as they are
+  unfoldable pub derivedIn : Derived → List ℕ → List ℕ → Result Written
+  derivedIn D.Absent f s = ok (record { nature = absentNature; entries = 0; values = 0; first = []; second = [] })
+  derivedIn (D.WholeRange n) f s = ok (record { nature = wholeRangeNature; entries = n; values = 0; first = take (9 * n) f; second = take (9 * n) s })
+  derivedIn (D.FloatRange n) f s = ok (record { nature = floatRangeNature; entries = n; values = 0; first = take (9 * n) f; second = take (9 * n) s })
+  derivedIn (D.WholeLists n t) f s = ok (record { nature = wholeListsNature; entries = n; values = t; first = take (F .numberWidth * t) f; second = take (8 * t) s })
+  derivedIn (D.Refused k) f s = refused k

@@ -1,0 +1,292 @@
+//! What a list holds, and whether it holds enough.
+
+use crate::form::{Call, Line, Mark};
+use std::collections::{BTreeMap, HashMap, HashSet};
+use std::fmt::Write;
+
+pub const NAMES: [&str; 9] = [
+    "Abs", "Add", "Subtract", "Multiply", "Divide", "Modulo", "Log", "Power", "Negative",
+];
+
+const LEAST_CALLS: usize = 3000;
+const MOST_CALLS: usize = 5200;
+const MOST_BYTES: usize = 4_000_000;
+const LEAST_ACCEPTED: usize = 100;
+const LEAST_REFUSED: usize = 5;
+const LEAST_EXACT: usize = 200;
+const LEAST_SHORT: usize = 27;
+
+/// Whether a threshold is met, and what to say if not.
+type Want = (bool, String);
+
+/// The refusals a component can give in a single call. 25 is in none of them:
+/// categories never get past 15 under Int Power.
+pub fn reachable(component: u32) -> &'static [u32] {
+    match component {
+        1 | 9 => &[3, 4, 5, 6, 11, 18, 19, 20, 22, 24, 26, 27],
+        2..=4 => &[
+            3, 4, 5, 6, 7, 8, 9, 10, 11, 12, 13, 14, 17, 18, 19, 20, 21, 22, 24, 26, 27,
+        ],
+        5 => &[
+            3, 4, 5, 6, 7, 8, 9, 10, 11, 12, 13, 14, 17, 18, 19, 20, 21, 22, 23, 24, 26, 27,
+        ],
+        6 | 7 => &[3, 4, 5, 6, 7, 8, 11, 14, 15, 16, 17, 18, 27],
+        8 => &[3, 4, 5, 6, 7, 8, 11, 14, 15, 16, 17, 18, 19, 20, 21, 22, 27],
+        _ => &[2],
+    }
+}
+
+/// How the outputs' lengths stand to the results'.
+#[derive(Default)]
+struct Outputs {
+    exact: usize,
+    longer: usize,
+    one_less: usize,
+    none: usize,
+    /// Between, or the result's length is not in the list.
+    otherwise: usize,
+}
+
+pub struct Stats {
+    calls: usize,
+    bytes: usize,
+    repeated: usize,
+    /// By component (0 for a bad one) and code.
+    cells: BTreeMap<(u32, u32), usize>,
+    marks: [usize; 3],
+    outputs: Outputs,
+    /// Lengths of left sheets: none, below 80, to 99, to 199, to 499, longer.
+    lengths: [usize; 6],
+    /// Accepted calls by the natures of left and right (9 where unread or bad).
+    natures: BTreeMap<(u8, u8), usize>,
+}
+
+/// The row of the table a component stands in.
+fn row(component: u32) -> u32 {
+    if (1..=9).contains(&component) {
+        component
+    } else {
+        0
+    }
+}
+
+impl Stats {
+    /// `bytes` is the length of the list's file.
+    pub fn of(lines: &[Line], bytes: usize) -> Stats {
+        let distinct: HashSet<&Call> = lines.iter().map(|line| &line.call).collect();
+        let mut stats = Stats {
+            calls: lines.len(),
+            bytes,
+            repeated: lines.len() - distinct.len(),
+            cells: BTreeMap::new(),
+            marks: [0; 3],
+            outputs: outputs(lines),
+            lengths: [0; 6],
+            natures: BTreeMap::new(),
+        };
+        for line in lines {
+            stats.count(line);
+        }
+        stats
+    }
+
+    fn count(&mut self, line: &Line) {
+        let Line { call, answer } = line;
+        *self
+            .cells
+            .entry((row(call.component), answer.code))
+            .or_default() += 1;
+        self.marks[match answer.mark {
+            Mark::Rust => 0,
+            Mark::Added => 1,
+            Mark::Decided => 2,
+        }] += 1;
+        self.lengths[match call.left.len() {
+            0 => 0,
+            1..=79 => 1,
+            80..=99 => 2,
+            100..=199 => 3,
+            200..=499 => 4,
+            _ => 5,
+        }] += 1;
+        if answer.code == 0 {
+            let unary = call.component == 1 || call.component == 9;
+            let right = if unary { 9 } else { nature(&call.right) };
+            *self.natures.entry((nature(&call.left), right)).or_default() += 1;
+        }
+    }
+
+    fn cell(&self, component: u32, code: u32) -> usize {
+        self.cells.get(&(component, code)).copied().unwrap_or(0)
+    }
+
+    /// Every threshold that the list misses, in words.
+    pub fn misses(&self) -> Vec<String> {
+        let mut wants = self.size_wants();
+        wants.extend(self.cell_wants());
+        wants.extend(self.output_wants());
+        let missed = wants.into_iter().filter(|(holds, _)| !holds);
+        missed.map(|(_, text)| text).collect()
+    }
+
+    fn size_wants(&self) -> Vec<Want> {
+        let (calls, bytes, repeated) = (self.calls, self.bytes, self.repeated);
+        vec![
+            (
+                (LEAST_CALLS..=MOST_CALLS).contains(&calls),
+                format!("{calls} calls, wanted {LEAST_CALLS} to {MOST_CALLS}"),
+            ),
+            (
+                bytes < MOST_BYTES,
+                format!("{bytes} bytes, wanted below {MOST_BYTES}"),
+            ),
+            (repeated == 0, format!("{repeated} calls stand twice")),
+        ]
+    }
+
+    /// Enough of every answer a component can give, and no other one.
+    fn cell_wants(&self) -> Vec<Want> {
+        let mut wants = Vec::new();
+        for component in 0..=9 {
+            let accepted = (component != 0).then_some((0, LEAST_ACCEPTED));
+            let refused = reachable(component)
+                .iter()
+                .map(|code| (*code, LEAST_REFUSED));
+            for (code, least) in accepted.into_iter().chain(refused) {
+                let count = self.cell(component, code);
+                let text =
+                    format!("component {component} gives {code} {count} times, wanted {least}");
+                wants.push((count >= least, text));
+            }
+        }
+        for (component, code) in self.cells.keys() {
+            let known = *code == 0 && *component != 0 || reachable(*component).contains(code);
+            let text = format!("component {component} gives {code}, which it cannot");
+            wants.push((known, text));
+        }
+        wants
+    }
+
+    fn output_wants(&self) -> Vec<Want> {
+        let wants = [
+            (self.outputs.exact, LEAST_EXACT, "exact outputs"),
+            (self.outputs.one_less, LEAST_SHORT, "outputs one byte short"),
+            (self.outputs.none, LEAST_SHORT, "outputs of no bytes"),
+            (self.marks[2], LEAST_REFUSED, "decided answers"),
+        ];
+        wants
+            .map(|(count, least, what)| (count >= least, format!("{count} {what}, wanted {least}")))
+            .to_vec()
+    }
+
+    /// The table of components and codes, and what stands beside it.
+    pub fn table(&self) -> String {
+        let codes = [0].into_iter().chain(2..=27).filter(|code| *code != 25);
+        let codes: Vec<u32> = codes.collect();
+        let mut text = format!("{:10}", "");
+        for code in &codes {
+            let _ = write!(text, "{code:>5}");
+        }
+        text.push_str("   all\n");
+        for component in (1..=9).chain([0]) {
+            let name = match component {
+                0 => "(bad)",
+                _ => NAMES[component as usize - 1],
+            };
+            let _ = write!(text, "{name:10}");
+            for code in &codes {
+                let count = self.cell(component, *code);
+                let shown = if count == 0 {
+                    "".to_string()
+                } else {
+                    count.to_string()
+                };
+                let _ = write!(text, "{shown:>5}");
+            }
+            let all: usize = self
+                .cells
+                .iter()
+                .filter(|(cell, _)| cell.0 == component)
+                .map(|(_, n)| n)
+                .sum();
+            let _ = writeln!(text, "{all:>6}");
+        }
+        text + &self.notes()
+    }
+
+    fn notes(&self) -> String {
+        let [rust, added, decided] = self.marks;
+        let accepted: usize = (1..=9).map(|component| self.cell(component, 0)).sum();
+        let Outputs {
+            exact,
+            longer,
+            one_less,
+            none,
+            otherwise,
+        } = self.outputs;
+        let [empty, short, to_99, to_199, to_499, long] = self.lengths;
+        let mut text = format!(
+            "{} calls, {} bytes; {accepted} accepted, {} refused; marks: {rust} rust, {added} added, {decided} decided\n\
+             outputs of accepted calls: {exact} exact, {longer} longer; refused with 27: {one_less} one byte short, {none} without a byte, {otherwise} otherwise\n\
+             left sheets by length: {empty} empty, {short} below 80, {to_99} to 99, {to_199} to 199, {to_499} to 499, {long} longer\n\
+             accepted by natures (left-right, 9 unread):",
+            self.calls,
+            self.bytes,
+            self.calls - accepted
+        );
+        for ((left, right), count) in &self.natures {
+            let _ = write!(text, " {left}-{right}:{count}");
+        }
+        text.push('\n');
+        text
+    }
+}
+
+fn nature(sheet: &[u8]) -> u8 {
+    sheet.get(6).copied().unwrap_or(9)
+}
+
+/// A refused output is measured against an accepted call with the same operands.
+fn outputs(lines: &[Line]) -> Outputs {
+    let key = |call: &Call| {
+        (
+            call.component,
+            call.node,
+            call.left.clone(),
+            call.right.clone(),
+        )
+    };
+    let accepted = lines.iter().filter(|line| line.answer.code == 0);
+    let known: HashMap<_, usize> = accepted
+        .map(|line| (key(&line.call), line.answer.bytes.len()))
+        .collect();
+    let mut outputs = Outputs::default();
+    for Line { call, answer } in lines {
+        match answer.code {
+            0 if call.out_len == answer.bytes.len() => outputs.exact += 1,
+            0 => outputs.longer += 1,
+            27 if call.out_len == 0 => outputs.none += 1,
+            27 if known.get(&key(call)) == Some(&(call.out_len + 1)) => outputs.one_less += 1,
+            27 => outputs.otherwise += 1,
+            _ => (),
+        }
+    }
+    outputs
+}
+
+/// The subcommand `stats`, for both programs: the text to print and whether
+/// the check passed.
+pub fn run(list: &str, check: bool) -> Result<(String, bool), String> {
+    let lines = crate::form::parse_list(list)?;
+    let stats = Stats::of(&lines, list.len());
+    let mut text = stats.table();
+    if !check {
+        return Ok((text, true));
+    }
+    let misses = stats.misses();
+    for miss in &misses {
+        let _ = writeln!(text, "missed: {miss}");
+    }
+    let _ = writeln!(text, "check: {} thresholds missed", misses.len());
+    Ok((text, misses.is_empty()))
+}

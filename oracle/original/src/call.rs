@@ -1,0 +1,193 @@
+//! One single call: sheets in, the original's word, a number and bytes out.
+
+use crate::base::{IndexKey, NodeProperties, ValueProperties};
+use crate::convert::{from_properties, to_properties};
+use crate::messages::{self, BASE_BREAKS, OVERFLOWS};
+use crate::root::value;
+use crate::stand_ins::{proto, Component};
+use indexmap::map::IndexMap;
+use oracle_list::form::{hex, Answer, Mark};
+use oracle_list::sheet::{Nature, Sheet, MOST_CATEGORIES};
+use std::cell::Cell;
+use std::panic::{catch_unwind, set_hook, take_hook, AssertUnwindSafe};
+use std::sync::Once;
+
+const LOG: u32 = 7;
+
+/// The answer to a single call, by document 01. The order of the checks 6 to
+/// 25 is the original's own; this function adds 2 to 5 before, 26 and 27 after.
+///
+/// # Panics
+/// If the original ends in a way that has no number: that is a fault of the
+/// oracle and must not pass for an answer.
+pub fn answer(component: u32, node: u32, left: &[u8], right: &[u8], out_len: usize) -> Answer {
+    match accept(component, node, left, right) {
+        Err(refusal) => refusal,
+        Ok(sheet) if sheet.nature.categories() > MOST_CATEGORIES => refuse(26, Mark::Added),
+        Ok(sheet) => {
+            let bytes = sheet.encode();
+            if bytes.len() > out_len {
+                return refuse(27, Mark::Added);
+            }
+            let mark = Mark::Rust;
+            Answer {
+                code: 0,
+                bytes,
+                mark,
+            }
+        }
+    }
+}
+
+fn refuse(code: u32, mark: Mark) -> Answer {
+    let bytes = Vec::new();
+    Answer { code, bytes, mark }
+}
+
+/// The derived sheet before 26 and 27, or the refusal.
+fn accept(component: u32, node: u32, left: &[u8], right: &[u8]) -> Result<Sheet, Answer> {
+    if !(1..=9).contains(&component) {
+        return Err(refuse(2, Mark::Added));
+    }
+    let decode = |bytes| Sheet::decode(bytes).map_err(|code| refuse(code, Mark::Added));
+    let left = decode(left)?;
+    let right = match component {
+        1 | 9 => None,
+        _ => Some(decode(right)?),
+    };
+    let word = run(component, node, &left, right.as_ref());
+    if component == LOG && both_whole(&left, right.as_ref()) && past_the_base(&word) {
+        return Err(refuse(15, Mark::Decided));
+    }
+    match word {
+        Word::Derived(sheet) => Ok(sheet),
+        Word::Refused(code, _) => Err(refuse(code, Mark::Rust)),
+        Word::Overflowed => Err(refuse(24, Mark::Added)),
+        Word::Fault(text) => fail(&text, component, node, &left, right.as_ref()),
+    }
+}
+
+fn fail(text: &str, component: u32, node: u32, left: &Sheet, right: Option<&Sheet>) -> ! {
+    let left = hex(&left.encode());
+    let right = hex(&right.map_or_else(Vec::new, Sheet::encode));
+    panic!(
+        "oracle failure: {}; the call: {} {} {} {}",
+        text, component, node, left, right
+    )
+}
+
+fn both_whole(left: &Sheet, right: Option<&Sheet>) -> bool {
+    let whole = |sheet: &Sheet| matches!(sheet.nature, Nature::WholeRange(_));
+    whole(left) && right.is_some_and(whole)
+}
+
+/// Whether Log's base has passed 15 and 16, read off the original's own word.
+/// The project refuses whole data under a whole base there with 15, where the
+/// original goes on. A 15 of the original, on base or data, is the same number.
+fn past_the_base(word: &Word) -> bool {
+    match word {
+        Word::Derived(_) => true,
+        Word::Refused(6 | 7 | 14 | 15, _) => false,
+        Word::Refused(16, message) => messages::digest(message) != BASE_BREAKS,
+        Word::Refused(..) => true,
+        Word::Overflowed | Word::Fault(_) => false,
+    }
+}
+
+/// How the original ended.
+enum Word {
+    Derived(Sheet),
+    /// With the number that its message stands for.
+    Refused(u32, String),
+    /// Unchecked arithmetic left 64 bits.
+    Overflowed,
+    /// In a way that has no number.
+    Fault(String),
+}
+
+fn run(component: u32, node: u32, left: &Sheet, right: Option<&Sheet>) -> Word {
+    let (name, properties) = arguments(component, left, right);
+    silence_panics();
+    INSIDE.with(|inside| inside.set(true));
+    let ended = catch_unwind(AssertUnwindSafe(|| {
+        name.propagate_property(&None, IndexMap::new(), properties, node)
+    }));
+    INSIDE.with(|inside| inside.set(false));
+    match ended {
+        Ok(Ok(result)) => derived(&value(result)),
+        Ok(Err(error)) => refused(error.to_string()),
+        Err(payload) => overflowed(payload.as_ref()),
+    }
+}
+
+fn derived(properties: &ValueProperties) -> Word {
+    match properties {
+        ValueProperties::Array(array) => {
+            from_properties(array).map_or_else(Word::Fault, Word::Derived)
+        }
+        _ => Word::Fault("the result is no array".to_string()),
+    }
+}
+
+fn refused(message: String) -> Word {
+    match messages::number(&message) {
+        Some(code) => Word::Refused(code, message),
+        None => Word::Fault(format!("no number for the message `{}`", message)),
+    }
+}
+
+/// Only the panics of unchecked arithmetic have a number.
+fn overflowed(payload: &(dyn std::any::Any + Send)) -> Word {
+    let text = payload.downcast_ref::<&str>().copied();
+    let text = text.or_else(|| payload.downcast_ref::<String>().map(String::as_str));
+    match text {
+        Some(text) if OVERFLOWS.contains(&text) => Word::Overflowed,
+        _ => Word::Fault(format!(
+            "the original panicked: {}",
+            text.unwrap_or("without a text")
+        )),
+    }
+}
+
+/// The component, and the operands under the names that it asks for.
+fn arguments(
+    component: u32,
+    left: &Sheet,
+    right: Option<&Sheet>,
+) -> (&'static dyn Component, NodeProperties) {
+    let (name, first, second): (&dyn Component, _, _) = match component {
+        1 => (&proto::Abs, "data", ""),
+        2 => (&proto::Add, "left", "right"),
+        3 => (&proto::Subtract, "left", "right"),
+        4 => (&proto::Multiply, "left", "right"),
+        5 => (&proto::Divide, "left", "right"),
+        6 => (&proto::Modulo, "left", "right"),
+        7 => (&proto::Log, "data", "base"),
+        8 => (&proto::Power, "data", "radical"),
+        _ => (&proto::Negative, "data", ""),
+    };
+    let mut properties = NodeProperties::new();
+    properties.insert(IndexKey::from(first), to_properties(left).into());
+    if let Some(right) = right {
+        properties.insert(IndexKey::from(second), to_properties(right).into());
+    }
+    (name, properties)
+}
+
+thread_local! {
+    static INSIDE: Cell<bool> = const { Cell::new(false) };
+}
+
+/// A panic inside the original is an answer and prints nothing; every other
+/// one is reported as usual.
+fn silence_panics() {
+    static ONCE: Once = Once::new();
+    ONCE.call_once(|| {
+        let usual = take_hook();
+        set_hook(Box::new(move |info| {
+            if !INSIDE.with(Cell::get) {
+                usual(info);
+            }
+        }));
+    });
+}

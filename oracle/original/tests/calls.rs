@@ -1,0 +1,107 @@
+//! The oracle as a whole: named cases, seeded calls, the decided difference.
+
+use oracle_list::cases;
+use oracle_list::form::{Call, Mark};
+use oracle_list::generate::call;
+use oracle_list::random::Random;
+use oracle_list::sheet::Sheet;
+use oracle_list::stats::reachable;
+use oracle_list::text::bytes;
+use oracle_original::answer;
+use oracle_original::select::fresh;
+
+#[test]
+fn named_cases_answer_as_expected() {
+    let mut faults = Vec::new();
+    for case in cases::all() {
+        let line = fresh(case.call.clone());
+        if let Err(fault) = case.check(&line.answer) {
+            faults.push(fault);
+        }
+    }
+    assert!(faults.is_empty(), "{:#?}", faults);
+}
+
+/// Every result is a sheet of the byte form, of at most the longest length, and
+/// every answer is one its component can give.
+#[test]
+fn seeded_calls_give_sheets() {
+    let mut random = Random::new(5);
+    for _ in 0..20_000 {
+        let line = fresh(call(&mut random));
+        let code = line.answer.code;
+        if code == 0 {
+            let sheet = Sheet::decode_unordered(&line.answer.bytes);
+            assert_eq!(sheet.map(|s| s.encode()), Ok(line.answer.bytes.clone()));
+            assert!(line.answer.bytes.len() <= 1284);
+        } else {
+            let component = line.call.component.min(10);
+            assert!(reachable(component).contains(&code), "{}", line);
+            assert!(line.answer.bytes.is_empty());
+        }
+    }
+}
+
+/// One byte less than the result's length is 27, its length is not.
+#[test]
+fn outputs_are_exact() {
+    let mut random = Random::new(6);
+    for _ in 0..5_000 {
+        let mut line = fresh(call(&mut random));
+        let Call { out_len, .. } = &mut line.call;
+        *out_len = line.answer.bytes.len();
+        assert_eq!(fresh(line.call.clone()), line);
+        if line.answer.code == 0 {
+            line.call.out_len -= 1;
+            let answer = fresh(line.call).answer;
+            assert_eq!((answer.code, answer.bytes.len()), (27, 0));
+        }
+    }
+}
+
+fn log(data: &str, base: &str) -> (u32, Mark) {
+    let answer = answer(7, 1, &bytes(data), &bytes(base), 1284);
+    (answer.code, answer.mark)
+}
+
+#[test]
+fn log_over_whole_ranges_is_decided() {
+    for data in ["W[2,3]", "W[0,3]", "W[2,3] columns=_", "W[2,3]*3"] {
+        let data = format!("{} type=Float", data);
+        assert_eq!(log(&data, "W[2,2]"), (15, Mark::Decided), "{}", data);
+    }
+    let private = "W[2,3] type=Float releasable=0 groups=1:i1";
+    assert_eq!(log(private, "W[2,2] releasable=0"), (15, Mark::Decided));
+}
+
+#[test]
+fn log_is_the_originals_elsewhere() {
+    assert_eq!(log("W[2,3] type=Float", "W[1,2]"), (16, Mark::Rust));
+    assert_eq!(log("W[2,3] type=Float", "W[2,_]"), (15, Mark::Rust));
+    assert_eq!(log("W[_,3] type=Float", "W[2,2]"), (15, Mark::Rust));
+    assert_eq!(log("W[2,3]", "W[2,2]"), (14, Mark::Rust));
+    assert_eq!(log("W[2,3] type=Float", "F[2.0,2.0]"), (17, Mark::Rust));
+    assert_eq!(log("F[2.0,3.0] type=Float", "F[2.0,2.0]"), (0, Mark::Rust));
+}
+
+/// 24 by a checked operation is the original's; by a panic it is added.
+#[test]
+fn overflows_are_told_apart() {
+    let mark = |component, left, right| {
+        let answer = answer(component, 1, &bytes(left), &bytes(right), 1284);
+        (answer.code, answer.mark)
+    };
+    let most = "W[9223372036854775807,9223372036854775807]";
+    let least = "W[-9223372036854775808,0]";
+    assert_eq!(mark(2, most, "W[1,1]"), (24, Mark::Rust));
+    assert_eq!(mark(3, least, "W[1,1]"), (24, Mark::Rust));
+    assert_eq!(mark(5, "W{1}", "W{0}"), (24, Mark::Rust));
+    assert_eq!(mark(4, most, "W[2,2]"), (24, Mark::Added));
+    assert_eq!(mark(5, least, "W[-1,-1]"), (24, Mark::Added));
+    assert_eq!(mark(1, most, "empty"), (24, Mark::Added));
+    assert_eq!(mark(9, least, "empty"), (24, Mark::Added));
+    assert_eq!(
+        mark(1, "W{-9223372036854775808}", "empty"),
+        (24, Mark::Added)
+    );
+}
