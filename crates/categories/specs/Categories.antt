@@ -11,6 +11,7 @@ use Rattle.numbers.specs.Checked.{inRange, checkedOf}
 use Rattle.numbers.specs.Kind.{whole, fitting, eqZ}
 use Rattle.utilities.specs.Lists.{firsts, standardized}
 use Rattle.base.specs.Form.{intType}
+use Rattle.base.specs.Sheet.{Nature, wholeLists}
 use Rattle.base.specs.Encode.{total}
 use Rattle.base.specs.declared.Component.{Component}
 use Rattle.base.specs.declared.Component.the-variants as C
@@ -71,3 +72,19 @@ module _ (rule : ℤ → ℤ → Result ℤ) where
 -- 26: "The result holds over 128 categories, counted as they would be written"; tested only if no pair fails
 unfoldable pub counted : ℕ → List (List ℤ) → Result (List (List ℤ))
 counted limit ls = cond (ltb limit (total ls)) (refused 26) (ok ls)
+
+-- the nature of lists that keep to the limit
+abbrev pub limited : ℕ → Result (List (List ℤ)) → Result Nature
+limited limit g = andThen g (λ ls. andThen (counted limit ls) (λ ms. ok (wholeLists ms)))
+
+-- the rule of a component on whole categories, where it has one whatever the type. (Modulo, Log and Power have none here: no call reaches theirs.)
+abbrev pub ruleOf : Component → ℤ → ℤ → Result ℤ
+ruleOf C.Abs a b = absWhole a
+ruleOf C.Add a b = whole .add a b
+ruleOf C.Subtract a b = whole .sub a b
+ruleOf C.Multiply a b = whole .mul a b
+ruleOf C.Divide a b = whole .div a b
+ruleOf C.Modulo a b = refused 24
+ruleOf C.Log a b = refused 24
+ruleOf C.Power a b = refused 24
+ruleOf C.Negative a b = whole .neg a

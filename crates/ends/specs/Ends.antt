@@ -1,7 +1,6 @@
 -- 01, "Range ends": the end rules of the nine components, written once over the element kind. Operands are [a, c] on the left and [d, f] on the right.
-use mathlib.Core.Bool.{Bool, cond, not, _&&_, _||_}
+use mathlib.Core.Bool.{cond, not, _&&_, _||_}
 use mathlib.Core.Option.{Option, none, some}
-use Prim.Native.Nat.{ℕ}
 use Rattle.numbers.specs.Result.{Result, ok, refused, andThen}
 use Rattle.numbers.specs.Kind.{Kind, Span, lesser, greater, least, greatest}
 use Rattle.base.specs.declared.Component.{Component}

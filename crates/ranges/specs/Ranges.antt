@@ -1,14 +1,16 @@
 -- `propagate_binary_continuous_nature`: a range derived column by column.
-use mathlib.Core.Bool.{cond, not}
+use mathlib.Core.Bool.{Bool, cond, not}
 use mathlib.Core.List.{List, [], _∷_}
 use Prim.Native.Nat.{ℕ}
 use lib.IntN.{ℤ}
 use lib.Dec.{eqb}
-use Rattle.numbers.specs.Result.{Result, check, checked}
-use Rattle.numbers.specs.Kind.{Span, whole}
+use Rattle.numbers.specs.Result.{Result, ok, andThen, check, checked}
+use Rattle.numbers.specs.Kind.{Span, whole, float}
 use Rattle.utilities.specs.Lists.{repeated}
 use Rattle.utilities.specs.Columns.{spreads, each, eachPair}
-use Rattle.base.specs.Form.{intType}
+use Rattle.base.specs.Form.{Form, intType}
+use Rattle.base.specs.Sheet.{Nature, wholeRange, floatRange}
+use Rattle.base.specs.Decode.{entries, asWhole, asFloat}
 use Rattle.base.specs.declared.Component.{Component}
 use Rattle.base.specs.declared.Component.the-variants as C
 use Rattle.ends.specs.Ends.{endRule, unknown}
@@ -33,3 +35,9 @@ rangePair rule columns xs ys =
 
 unfoldable pub rangeAlone : {E : Type 0} → (Span E → Span E → Result (Span E)) → ℕ → List (Span E) → Result (List (Span E))
 rangeAlone rule columns xs = checked (check 18 (not (spreads columns xs)) ∷ []) (each (λ x. rule x x) (repeated columns xs))
+
+-- the range derived of two sheets' bytes, whose ranges are both float or both whole
+unfoldable pub rangeNature : Form → Bool → Component → ℕ → ℕ → List ℕ → List ℕ → Result Nature
+rangeNature F isFloat c type columns l r =
+    cond isFloat (andThen (rangePair (endRule float c) columns (entries F l asFloat) (entries F r asFloat)) (λ zs. ok (floatRange zs)))
+    (andThen (rangePair (wholeRule c type) columns (entries F l asWhole) (entries F r asWhole)) (λ zs. ok (wholeRange zs)))

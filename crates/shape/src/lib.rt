@@ -1,1 +1,1 @@
-// Groups, columns, rows and fields of two operands.
+// Groups, columns, rows, checks and fields of two operands.

@@ -7,7 +7,7 @@ use Rattle.base.specs.declared.Component.{Component}
 use Rattle.base.specs.declared.Component.the-variants as C
 use Rattle.shape.specs.Shape.{columnsOf, widest}
 use Rattle.transforms.specs.Natures.{unaryNature, binaryNature}
-use Rattle.transforms.specs.Orders.{unaryChecks, pairChecks, copyChecks, moduloChecks, logChecks, powerChecks, lastChecks}
+use Rattle.shape.specs.Orders.{unaryChecks, pairChecks, copyChecks, moduloChecks, logChecks, powerChecks, lastChecks}
 use Rattle.shape.specs.Fields.{pairSheet, copySheet, unarySheet}
 
 -- `limit` is how many categories a result may hold
@@ -15,7 +15,7 @@ module _ (limit : ℕ) (c : Component) where
   -- Abs and Negative: 6, 11, then 18 to 26
   unfoldable pub deriveUnary : Sheet → Result Sheet
   deriveUnary s =
-      checked (unaryChecks s)
+      checked (unaryChecks (s .fields))
       (andThen (unaryNature limit c (s .fields .dataType) (columnsOf (s .fields)) (s .nature)) (λ k. ok (unarySheet s k)))
 
   -- Add, Subtract, Multiply, Divide: in list order

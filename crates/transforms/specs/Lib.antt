@@ -1,5 +1,4 @@
 pub mod Natures
-pub mod Orders
 pub mod Derive
 pub mod Single
 pub mod Computing

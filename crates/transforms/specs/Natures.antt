@@ -14,7 +14,7 @@ use Rattle.base.specs.Encode.{natureNumber, entryCount}
 use Rattle.base.specs.declared.Component.{Component}
 use Rattle.ends.specs.Ends.{endRule}
 use Rattle.ranges.specs.Ranges.{wholeRule, rangePair, rangeAlone}
-use Rattle.categories.specs.Categories.{categoryRule, combined, mapped, counted}
+use Rattle.categories.specs.Categories.{categoryRule, combined, mapped, limited}
 
 -- 22: "The component has no rule for this category kind"; 01: "Bool has none anywhere"
 abbrev pub ruleFor : Component → ℕ → Nature → Option (ℤ → ℤ → Result ℤ)
@@ -45,9 +45,6 @@ abbrev pub noLists : Nature → Bool
 noLists k = eqb (entryCount k) 0
 
 module _ (limit : ℕ) (c : Component) (type columns : ℕ) where
-  abbrev pub limited : Result (List (List ℤ)) → Result Nature
-  limited g = andThen g (λ ls. andThen (counted limit ls) (λ ms. ok (wholeLists ms)))
-
   -- two category operands: 19 to 22, then the product
   unfoldable pub listsPair : Nature → Nature → Result Nature
   listsPair l r =
@@ -58,12 +55,12 @@ module _ (limit : ℕ) (c : Component) (type columns : ℕ) where
       ∷ check 20 (noLists r)
       ∷ check 21 (not (eqb (natureNumber l) (natureNumber r)))
       ∷ [])
-      (ruled (ruleFor c type l) (λ rule. limited (combined rule columns (wholeListsOf l) (wholeListsOf r))))
+      (ruled (ruleFor c type l) (λ rule. limited limit (combined rule columns (wholeListsOf l) (wholeListsOf r))))
 
   unfoldable pub listsAlone : Nature → Result Nature
   listsAlone l =
       checked (check 19 (isFloatLists l) ∷ check 20 (noLists l) ∷ [])
-      (ruled (ruleFor c type l) (λ rule. limited (mapped rule columns (wholeListsOf l))))
+      (ruled (ruleFor c type l) (λ rule. limited limit (mapped rule columns (wholeListsOf l))))
 
   unfoldable pub wholeRangeWith : List (Span ℤ) → Nature → Result Nature
   wholeRangeWith xs absent = ok absent

@@ -1,15 +1,16 @@
 -- A nature as it is written: its number, its sizes, and the bytes of its two arrays.
 use mathlib.Core.List.{List, [], _++_}
-use Prim.Native.Nat.{ℕ, _+_, _-_, _*_}
+use Prim.Native.Nat.{ℕ, _-_}
 use lib.IntN.{ℤ}
 use lib.ListN.{length, take, replicate}
 use Rattle.bytes.specs.Le.{leBytes}
 use Rattle.numbers.specs.Result.{Result, ok, refused, andThen}
 use Rattle.numbers.specs.Kind.{Span}
-use Rattle.base.specs.Form.{Form, place, fieldsEnd, absentNature, wholeRangeNature, floatRangeNature, wholeListsNature}
+use Rattle.base.specs.Form.{Form, place, fieldsEnd}
 use Rattle.base.specs.Sheet.{Group, Nature, absent, wholeRange, floatRange, wholeLists, boolLists, floatLists, Fields}
 use Rattle.base.specs.Decode.{asBits}
 use Rattle.base.specs.Encode.{joined, endBytes, wholeBits, floatBits, numbersFrom, markBytes, valueBytes, groupBytes, natureNumber, entryCount, valueCount}
+use Rattle.writer.specs.declared.Parts.{Parts}
 use Rattle.writer.specs.declared.Derived.{Derived}
 use Rattle.writer.specs.declared.Derived.the-variants as D
 
@@ -77,10 +78,16 @@ module _ (F : Form) where
       ++ w .first
       ++ w .second
 
-  -- what a derived nature says, with the two buffers as they are
-  unfoldable pub derivedIn : Derived → List ℕ → List ℕ → Result Written
-  derivedIn D.Absent f s = ok (record { nature = absentNature; entries = 0; values = 0; first = []; second = [] })
-  derivedIn (D.WholeRange n) f s = ok (record { nature = wholeRangeNature; entries = n; values = 0; first = take (9 * n) f; second = take (9 * n) s })
-  derivedIn (D.FloatRange n) f s = ok (record { nature = floatRangeNature; entries = n; values = 0; first = take (9 * n) f; second = take (9 * n) s })
-  derivedIn (D.WholeLists n t) f s = ok (record { nature = wholeListsNature; entries = n; values = t; first = take (F .numberWidth * t) f; second = take (8 * t) s })
-  derivedIn (D.Refused k) f s = refused k
+-- what a derived nature says, with the two buffers as they are
+abbrev pub partsIn : Parts → List ℕ → List ℕ → Written
+partsIn p f s = record {
+  nature = p .nature;
+  entries = p .entries;
+  values = p .values;
+  first = take (p .first) f;
+  second = take (p .second) s;
+}
+
+abbrev pub derivedIn : Derived → List ℕ → List ℕ → Result Written
+derivedIn (D.Nature p) f s = ok (partsIn p f s)
+derivedIn (D.Refused k) f s = refused k

@@ -26,8 +26,8 @@ abbrev pub sampled : Fields → Bool
 sampled x = not (x .releasable) && notOne (x .sample)
 
 -- 6 and 7 of one operand
-abbrev pub operandChecks : Sheet → List Check
-operandChecks s = check 6 (aggregated (s .fields)) ∷ check 7 (sampled (s .fields)) ∷ []
+abbrev pub operandChecks : Fields → List Check
+operandChecks x = check 6 (aggregated x) ∷ check 7 (sampled x) ∷ []
 
 module _ (l r : Sheet) where
   -- 8: "Neither operand is releasable and their groups differ"
@@ -45,8 +45,8 @@ module _ (l r : Sheet) where
   -- 01: "Components 2 to 5 check in list order"; 17 to 26 follow. 14: "Others need equal types"
   abbrev pub pairChecks : List Check
   pairChecks =
-      operandChecks l
-      ++ operandChecks r
+      operandChecks (l .fields)
+      ++ operandChecks (r .fields)
       ++ (check 8 groupsClash
       ∷ check 9 datasetsClash
       ∷ check 10 stabilitiesClash
@@ -87,11 +87,11 @@ module _ (l r : Sheet) where
 
   -- 01: "Modulo, Log and Power check 6, 7, 14, 15, 16, 11, then 17 to 26, then 8"; for 11 "only left's is read"
   abbrev pub copyChecks : List Check → List Check
-  copyChecks boundChecks = operandChecks l ++ operandChecks r ++ boundChecks ++ (check 11 (columnsAbsent (l .fields)) ∷ [])
+  copyChecks boundChecks = operandChecks (l .fields) ++ operandChecks (r .fields) ++ boundChecks ++ (check 11 (columnsAbsent (l .fields)) ∷ [])
 
   abbrev pub lastChecks : List Check
   lastChecks = check 8 groupsClash ∷ []
 
 -- 01: "Abs and Negative check 6, 11, then 18 to 26"
-abbrev pub unaryChecks : Sheet → List Check
-unaryChecks s = check 6 (aggregated (s .fields)) ∷ check 11 (columnsAbsent (s .fields)) ∷ []
+abbrev pub unaryChecks : Fields → List Check
+unaryChecks x = check 6 (aggregated x) ∷ check 11 (columnsAbsent x) ∷ []

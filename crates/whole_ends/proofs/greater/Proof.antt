@@ -1,0 +1,25 @@
+-- `whole_ends::greater` meets its contract. Assumes nothing.
+use mathlib.Core.Path.{sym, _∙_}
+use mir.Facts.{toZ-ofZ}
+use Rattle.numbers.specs.Kind.{whole}
+use Rattle.numbers.proofs.Bits.{lt-read}
+use Rattle.numbers.proofs.Choices.{greater-yes, greater-no}
+use Rattle.whole_ends.proofs.greater.Statement.{statement}
+use Rattle.whole_ends.proofs.greater.Tie as tie
+
+returns : tie.Need-returns
+returns c =
+    let v = c .before in
+    toZ-ofZ (v .fits .x) ∙ sym (greater-yes whole (v .args .x) (v .args .y) (lt-read (v .fits .y) (v .fits .x) (c .if1 .taken)))
+
+returns-2 : tie.Need-returns-2
+returns-2 c =
+    let v = c .before in
+    toZ-ofZ (v .fits .y) ∙ sym (greater-no whole (v .args .x) (v .args .y) (lt-read (v .fits .y) (v .fits .x) (c .if1 .left)))
+
+pub greater-spec : {M : Type 1} → statement M
+greater-spec =
+    tie.close
+    (tie.spec
+    returns
+    returns-2)
