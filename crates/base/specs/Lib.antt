@@ -6,3 +6,5 @@ pub mod Encode
 pub mod Bounds
 pub mod Components
 pub mod Code
+pub mod Sized
+pub mod Entries

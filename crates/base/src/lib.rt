@@ -1,4 +1,19 @@
 // The sheet: its form, its readers and checks, its records, and the components by their numbers.
+ghost use mathlib.Core.Path.{_≡_};
+ghost use Prim.Native.Nat.{_+_, _≤_, _<_};
+ghost use lib.ListN.{length};
+ghost use Rattle.bytes.specs.Le.{leAt};
+ghost use Rattle.bytes.specs.Wrote.{Wrote};
+ghost use Rattle.base.specs.Form.{narrow, place, nodeAt};
+ghost use Rattle.base.specs.Decode.{asWhole, asBits, optionAt, fieldsIn};
+ghost use Rattle.base.specs.Checks.{read};
+ghost use Rattle.base.specs.Components.{numberOf, componentOf, isUnary};
+ghost use Rattle.base.specs.Code.{boundAt, boundBytes, signedOf, bitsIn, headFields, codeOf};
+ghost use Rattle.base.specs.Sized.{SizesIn};
+
+pub mod form; // limits, places and numbers
+mod checks; // 3 and 4
+mod order; // 5
 
 // 01: "A bound is absent, a whole number or a float".
 pub enum Bound {
@@ -58,4 +73,201 @@ pub enum Component {
 pub enum Numbered {
     Is(Component),
     Unlisted,
+}
+
+impl Component {
+    pub const ABS: u32 = 1;
+
+    pub const ADD: u32 = 2;
+
+    pub const SUBTRACT: u32 = 3;
+
+    pub const MULTIPLY: u32 = 4;
+
+    pub const DIVIDE: u32 = 5;
+
+    pub const MODULO: u32 = 6;
+
+    pub const LOG: u32 = 7;
+
+    pub const POWER: u32 = 8;
+
+    pub const NEGATIVE: u32 = 9;
+
+    pub fn from_number(n: u32) -> Numbered
+        ensures { λ r. ⌜ r ≡ componentOf n ⌝ }
+    {
+        match n {
+            Component::ABS => Numbered::Is(Component::Abs),
+            Component::ADD => Numbered::Is(Component::Add),
+            Component::SUBTRACT => Numbered::Is(Component::Subtract),
+            Component::MULTIPLY => Numbered::Is(Component::Multiply),
+            Component::DIVIDE => Numbered::Is(Component::Divide),
+            Component::MODULO => Numbered::Is(Component::Modulo),
+            Component::LOG => Numbered::Is(Component::Log),
+            Component::POWER => Numbered::Is(Component::Power),
+            Component::NEGATIVE => Numbered::Is(Component::Negative),
+            _ => Numbered::Unlisted,
+        }
+    }
+
+    pub fn number(self) -> u32
+        ensures { λ r. ⌜ r ≡ numberOf self ⌝ }
+    {
+        match self {
+            Component::Abs => Self::ABS,
+            Component::Add => Self::ADD,
+            Component::Subtract => Self::SUBTRACT,
+            Component::Multiply => Self::MULTIPLY,
+            Component::Divide => Self::DIVIDE,
+            Component::Modulo => Self::MODULO,
+            Component::Log => Self::LOG,
+            Component::Power => Self::POWER,
+            Component::Negative => Self::NEGATIVE,
+        }
+    }
+
+    // Abs and Negative do not read the right sheet.
+    pub fn is_unary(self) -> bool
+        ensures { λ r. ⌜ r ≡ isUnary self ⌝ }
+    {
+        match self {
+            Component::Abs => true,
+            Component::Add => false,
+            Component::Subtract => false,
+            Component::Multiply => false,
+            Component::Divide => false,
+            Component::Modulo => false,
+            Component::Log => false,
+            Component::Power => false,
+            Component::Negative => true,
+        }
+    }
+}
+
+// ---- bounds
+
+// The bound at `at`: a mark, and 64 bits that are a float's or a signed number's.
+pub fn bound_at(s: &[u8], float: bool, at: usize) -> Bound
+    requires { ⌜ at + 9 ≤ length (now s) ⌝ }
+    ensures { λ r. ⌜ r ≡ boundAt float at (now (s .entry)) ⌝ }
+{
+    if s[at] == 0 {
+        return Bound::Absent;
+    }
+    if float {
+        Bound::Float(bytes::f64_at(s, at + 1))
+    } else {
+        Bound::Whole(bytes::i64_at(s, at + 1))
+    }
+}
+
+// Appends a bound at `at`; an absent one is all zero bits.
+pub fn put_bound(buf: &mut [u8], at: usize, b: Bound) -> usize
+    requires { ⌜ at + 9 ≤ length (now buf) ⌝ }
+    ensures { λ r. ⌜ Wrote (now (buf .entry)) at 9 (boundBytes b) (now (buf .exit)) r ⌝ }
+{
+    match b {
+        Bound::Absent => {
+            let next = bytes::put_u8(buf, at, 0);
+            bytes::put_u64(buf, next, 0)
+        }
+        Bound::Whole(z) => {
+            let next = bytes::put_u8(buf, at, 1);
+            bytes::put_i64(buf, next, z)
+        }
+        Bound::Float(x) => {
+            let next = bytes::put_u8(buf, at, 1);
+            bytes::put_f64(buf, next, x)
+        }
+    }
+}
+
+// ---- the sizes and the fields
+
+// The sizes that a sheet begins with.
+pub fn sizes_at(s: &[u8]) -> Sizes
+    requires { ⌜ narrow .arraysAt ≤ length (now s) ⌝ }
+    ensures { λ r. ⌜ SizesIn narrow (now (s .entry)) r ⌝ }
+{
+    let groups = bytes::u16_at(s, form::GROUPS_AT);
+    let lists = bytes::u16_at(s, form::LISTS_AT);
+    let categories = bytes::u16_at(s, form::CATEGORIES_AT);
+    Sizes {
+        groups: groups as usize,
+        lists: lists as usize,
+        categories: categories as usize,
+    }
+}
+
+fn option_i64_at(s: &[u8], mark: usize, at: usize) -> OptionI64
+    requires { ⌜ (mark < length (now s)) × (at + 8 ≤ length (now s)) ⌝ }
+    ensures { λ r. ⌜ signedOf r ≡ optionAt asWhole mark at (now (s .entry)) ⌝ }
+{
+    if s[mark] == 0 {
+        return OptionI64::Absent;
+    }
+    OptionI64::Is(bytes::i64_at(s, at))
+}
+
+fn option_u64_at(s: &[u8], mark: usize, at: usize) -> OptionU64
+    requires { ⌜ (mark < length (now s)) × (at + 8 ≤ length (now s)) ⌝ }
+    ensures { λ r. ⌜ bitsIn r ≡ optionAt asBits mark at (now (s .entry)) ⌝ }
+{
+    if s[mark] == 0 {
+        return OptionU64::Absent;
+    }
+    OptionU64::Is(bytes::u64_at(s, at))
+}
+
+pub fn read_head(s: &[u8]) -> Head
+    requires { ⌜ narrow .arraysAt ≤ length (now s) ⌝ }
+    ensures { λ r. ⌜ headFields r ≡ fieldsIn narrow (now (s .entry)) ⌝ }
+{
+    let c_stability = bytes::u32_at(s, form::C_STABILITY_AT);
+    let aggregator = bytes::u32_at(s, form::AGGREGATOR_AT);
+    let rows = option_i64_at(s, form::ROWS_MARK_AT, form::ROWS_AT);
+    let columns = option_u64_at(s, form::COLUMNS_MARK_AT, form::COLUMNS_AT);
+    let dataset = option_i64_at(s, form::DATASET_MARK_AT, form::DATASET_AT);
+    let dimensionality = option_i64_at(s, form::DIMENSIONALITY_MARK_AT, form::DIMENSIONALITY_AT);
+    let sample = option_u64_at(s, form::SAMPLE_MARK_AT, form::SAMPLE_AT);
+    Head {
+        data_type: s[form::TYPE_AT],
+        nullity: s[form::NULLITY_AT] != 0,
+        releasable: s[form::RELEASABLE_AT] != 0,
+        not_empty: s[form::NOT_EMPTY_AT] != 0,
+        ordered: s[form::ORDERED_AT] != 0,
+        c_stability,
+        aggregator,
+        rows,
+        columns,
+        dataset,
+        dimensionality,
+        sample,
+    }
+}
+
+pub fn node_at(s: &[u8]) -> i64
+    requires { ⌜ narrow .arraysAt ≤ length (now s) ⌝ }
+    ensures { λ r. ⌜ r ≡ asWhole (leAt 8 (place narrow nodeAt) (now (s .entry))) ⌝ }
+{
+    bytes::i64_at(s, form::NODE_AT)
+}
+
+// ---- checks 3 to 5
+
+// 0, or the number of the first check of 3 to 5 that the sheet breaks.
+pub fn check_sheet(s: &[u8]) -> u32
+    ensures { λ r. ⌜ r ≡ codeOf (read narrow (now (s .entry))) ⌝ }
+{
+    if checks::sizes_fail(s) {
+        return 3;
+    }
+    if checks::fields_fail(s) {
+        return 4;
+    }
+    if order::bounds_fail(s) {
+        return 5;
+    }
+    0
 }

@@ -4,7 +4,7 @@ use lib.Ieee.{ofBits}
 use borrow.Author.Needs.{needs}
 use Rattle.numbers.specs.Kind.{float}
 use Rattle.base.specs.Code.{floatEnd, ofFloat}
-use Rattle.ends.proofs.Tags.{not-float}
+use Rattle.base.proofs.Ends.{not-float}
 use Rattle.ends.proofs.Rules.{by-none, by-upper-yes, by-upper-no, by-lower-yes, by-lower-no, by-both}
 use Rattle.ends.proofs.Answers.{ends-answer}
 use Rattle.float_ends.proofs.div_by.Statement.{statement}

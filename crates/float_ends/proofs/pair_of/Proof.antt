@@ -2,7 +2,7 @@
 use mathlib.Core.Path.{sym, ap}
 use borrow.Author.Needs.{needs}
 use Rattle.base.specs.Code.{floatEnd}
-use Rattle.ends.proofs.Tags.{not-float}
+use Rattle.base.proofs.Ends.{not-float}
 use Rattle.ends.proofs.Rules.{two-left, two-right, two-some}
 use Rattle.float_ends.proofs.pair_of.Statement.{statement}
 use Rattle.float_ends.proofs.pair_of.Tie as tie

@@ -9,7 +9,7 @@ use Rattle.numbers.proofs.Bits.{above-zero, below-zero}
 use Rattle.base.specs.Code.{wholeEnd, ofWhole}
 use Rattle.ends.specs.Ends.{divPresent}
 use Rattle.ends.specs.Code.{endsOf}
-use Rattle.ends.proofs.Tags.{not-whole}
+use Rattle.base.proofs.Ends.{not-whole}
 use Rattle.ends.proofs.Rules.{by-none, by-upper-yes, by-upper-no, by-lower-yes, by-lower-no, by-both}
 use Rattle.ends.proofs.Answers.{four, ends-answer}
 use Rattle.whole_ends.proofs.div_by.Statement.{statement}

@@ -7,7 +7,7 @@ use mir.Val.{SFits}
 use mir.Facts.{toZ-ofZ}
 use borrow.Author.Needs.{needs}
 use Rattle.base.specs.Code.{wholeEnd}
-use Rattle.ends.proofs.Tags.{not-whole}
+use Rattle.base.proofs.Ends.{not-whole}
 use Rattle.ends.proofs.Rules.{two-left, two-right, two-some}
 use Rattle.whole_ends.proofs.pair_of.Statement.{statement}
 use Rattle.whole_ends.proofs.pair_of.Tie as tie

@@ -1,0 +1,54 @@
+-- A loop that tests the numbers from one place to another and stops at the first that fails. `Holding` is its invariant: what the rest decides is what
+-- the whole decides. Assumes nothing.
+use mathlib.Core.Path.{_≡_, refl, sym, ap, _∙_}
+use mathlib.Core.Bool.{Bool, true, false, cond, not, _&&_}
+use Prim.Native.Nat.{ℕ, zero, suc, _+_, _-_, _≤_, _<_}
+use native.Mathlib.Nat.{sub-zero}
+use native.Mathlib.Omega.{arith}
+use borrow.Author.Tests.{not-true, not-false}
+use Rattle.utilities.specs.Lists.{listFrom, every}
+use Rattle.base.specs.Checks.{holdsFrom}
+
+-- i is the next number to be tested, and n the end
+pub record Holding (p : ℕ → Bool) (n i : ℕ) (all : Bool) : Type 0 where
+  pub rest : holdsFrom (n - i) i p ≡ all
+
+pub holding-start : (p : ℕ → Bool) (n i : ℕ) → Holding p n i (holdsFrom (n - i) i p)
+holding-start p n i = record { rest = refl }
+
+pub holding-from-zero : (p : ℕ → Bool) (n : ℕ) {all : Bool} → holdsFrom n 0 p ≡ all → Holding p n 0 all
+holding-from-zero p n e = record { rest = ap (λ (k : ℕ). holdsFrom k 0 p) (sub-zero n) ∙ e }
+
+more : (p : ℕ → Bool) (n i : ℕ) → i < n → holdsFrom (n - i) i p ≡ (p i && holdsFrom (n - (i + 1)) (i + 1) p)
+unfolding holdsFrom
+more p n i h =
+    let e : n - i ≡ suc (n - (i + 1)) = omega arith in
+    ap (λ (k : ℕ). holdsFrom k i p) e
+
+module _ {p : ℕ → Bool} {n i : ℕ} {all : Bool} (inv : Holding p n i all) (h : i < n) {r : Bool} (e : r ≡ p i) where
+  -- the test at i, whose answer is r
+  step : holdsFrom (n - i) i p ≡ (r && holdsFrom (n - (i + 1)) (i + 1) p)
+  step = more p n i h ∙ ap (λ (t : Bool). t && holdsFrom (n - (i + 1)) (i + 1) p) (sym e)
+
+  pub holding-more : not r ≡ false → Holding p n (i + 1) all
+  holding-more t = record { rest = sym (step ∙ ap (λ (t : Bool). t && holdsFrom (n - (i + 1)) (i + 1) p) (not-false r t)) ∙ inv .rest }
+
+  pub holding-failed : not r ≡ true → false ≡ all
+  holding-failed t = sym (step ∙ ap (λ (t : Bool). t && holdsFrom (n - (i + 1)) (i + 1) p) (not-true r t)) ∙ inv .rest
+
+module _ {p : ℕ → Bool} {n i : ℕ} {all : Bool} (inv : Holding p n i all) where
+  pub holding-done : n ≤ i → true ≡ all
+  unfolding holdsFrom
+  holding-done h =
+      let e : n - i ≡ 0 = omega arith in
+      sym (ap (λ (k : ℕ). holdsFrom k i p) e) ∙ inv .rest
+
+-- a test of every value of a list that is made number by number
+pub every-from : {X : Type 0} (p : X → Bool) (f : ℕ → X) (n i : ℕ) → every p (listFrom n i f) ≡ holdsFrom n i (λ k. p (f k))
+unfolding every listFrom holdsFrom
+every-from p f zero i = refl
+every-from p f (suc n) i = go (p (f i)) (every-from p f n (i + 1))
+  where
+    go : (t : Bool) {x y : Bool} → x ≡ y → cond t x false ≡ (t && y)
+    go true e = e
+    go false e = refl

@@ -1,0 +1,7 @@
+-- What the proofs of several functions, and of the crates above, cite.
+pub mod Flags
+pub mod Holding
+pub mod Passed
+pub mod Ends
+pub mod Natures
+pub mod Numbers

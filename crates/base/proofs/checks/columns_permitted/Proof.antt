@@ -1,0 +1,10 @@
+-- `base::checks::columns_permitted` meets its contract. Assumes nothing.
+use borrow.Author.Needs.{needs}
+use Rattle.base.proofs.checks.columns_permitted.Statement.{statement}
+use Rattle.base.proofs.checks.columns_permitted.Tie as tie
+
+returns : tie.Need-returns
+returns c = cc
+
+pub columns-permitted-spec : {M : Type 1} → statement M
+columns-permitted-spec = tie.close (tie.spec (λ c κs. search needs) (λ c. search needs) returns)

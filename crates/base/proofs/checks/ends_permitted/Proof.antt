@@ -1,0 +1,19 @@
+-- `base::checks::ends_permitted` meets its contract. Assumes nothing.
+use borrow.Author.Needs.{needs}
+use Rattle.base.proofs.checks.ends_permitted.Statement.{statement}
+use Rattle.base.proofs.checks.ends_permitted.Tie as tie
+
+returns : tie.Need-returns
+returns c = cc
+
+pub ends-permitted-spec : {M : Type 1} → statement M
+ends-permitted-spec =
+    tie.close
+    (tie.spec
+    (λ c κs. search needs)
+    (λ c κs. search needs)
+    (λ c. search needs)
+    (λ c κs. search needs)
+    (λ c. search needs)
+    (λ c κs. search needs)
+    returns)

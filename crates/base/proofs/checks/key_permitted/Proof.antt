@@ -1,0 +1,10 @@
+-- `base::checks::key_permitted` meets its contract. Assumes nothing.
+use borrow.Author.Needs.{needs}
+use Rattle.base.proofs.checks.key_permitted.Statement.{statement}
+use Rattle.base.proofs.checks.key_permitted.Tie as tie
+
+returns : tie.Need-returns
+returns c = cc
+
+pub key-permitted-spec : {M : Type 1} → statement M
+key-permitted-spec = tie.close (tie.spec (λ c κs. search needs) (λ c. search needs) (λ c. search needs) (λ c κs. search needs) returns)

@@ -1,0 +1,10 @@
+-- `base::checks::mark_permitted` meets its contract. Assumes nothing.
+use borrow.Author.Needs.{needs}
+use Rattle.base.proofs.checks.mark_permitted.Statement.{statement}
+use Rattle.base.proofs.checks.mark_permitted.Tie as tie
+
+returns : tie.Need-returns
+returns c = cc
+
+pub mark-permitted-spec : {M : Type 1} → statement M
+mark-permitted-spec = tie.close (tie.spec (λ c. search needs) (λ c. search needs) (λ c κs. search needs) returns)

@@ -1,0 +1,21 @@
+-- `base::checks::values_permitted` meets its contract. Assumes nothing.
+use borrow.Author.Needs.{needs}
+use Rattle.base.specs.Checks.{valuesPermitted}
+use Rattle.base.proofs.checks.values_permitted.Statement.{statement}
+use Rattle.base.proofs.checks.values_permitted.Tie as tie
+
+returns : tie.Need-returns
+unfolding valuesPermitted
+returns c = cc
+
+pub values-permitted-spec : {M : Type 1} → statement M
+values-permitted-spec =
+    tie.close
+    (tie.spec
+    (λ c κs. search needs)
+    (λ c κs. search needs)
+    (λ c κs. search needs)
+    (λ c κs. search needs)
+    (λ c κs. search needs)
+    (λ c κs. search needs)
+    returns)
