@@ -1,4 +1,28 @@
 // Derived natures in two buffers, and the sheet written from one.
+ghost use mathlib.Core.Path.{_≡_};
+ghost use mathlib.Core.List.{_++_};
+ghost use Prim.Native.Nat.{_+_, _*_, _≤_, _<_};
+ghost use lib.ListN.{length, take, drop};
+ghost use Rattle.bytes.specs.Le.{leBytes};
+ghost use Rattle.bytes.specs.Wrote.{Wrote};
+ghost use Rattle.base.specs.Form.{narrow, groupCount};
+ghost use Rattle.base.specs.Decode.{asBits, groupsIn};
+ghost use Rattle.base.specs.Encode.{wholeBits, flag, mark, bitsOf, markBytes, valueBytes};
+ghost use Rattle.base.specs.Code.{signedOf, bitsIn, headFields};
+ghost use Rattle.writer.specs.Written.{sheetFrom, partsIn};
+ghost use Rattle.writer.specs.Room.{Room, flagBytes, presenceBytes, frontBytes};
+use base::Head;
+use base::OptionI64;
+use base::OptionU64;
+
+// Where a sheet has the number of its groups.
+const GROUPS_AT: usize = 0;
+
+// Where its arrays begin.
+const ARRAYS_AT: usize = 80;
+
+// The bytes of a group, in both of its arrays.
+const GROUP_SIZE: usize = 13;
 
 // A derived nature whose two arrays stand at the start of two lent buffers: lowers and uppers of a range, or list numbers and values of categories.
 pub struct Parts {
@@ -16,4 +40,165 @@ pub struct Parts {
 pub enum Derived {
     Nature(Parts),
     Refused(u32),
+}
+
+// ---- a field as a byte or as 64 bits
+
+fn flag_byte(b: bool) -> u8
+    ensures { λ r. ⌜ r ≡ flag b ⌝ }
+{
+    if b { 1 } else { 0 }
+}
+
+fn signed_mark(v: OptionI64) -> u8
+    ensures { λ r. ⌜ r ≡ mark (signedOf v) ⌝ }
+{
+    match v {
+        OptionI64::Absent => 0,
+        OptionI64::Is(_) => 1,
+    }
+}
+
+fn plain_mark(v: OptionU64) -> u8
+    ensures { λ r. ⌜ r ≡ mark (bitsIn v) ⌝ }
+{
+    match v {
+        OptionU64::Absent => 0,
+        OptionU64::Is(_) => 1,
+    }
+}
+
+fn signed_bits(v: OptionI64) -> u64
+    ensures { λ r. ⌜ r ≡ bitsOf wholeBits (signedOf v) ⌝ }
+{
+    match v {
+        OptionI64::Absent => 0,
+        OptionI64::Is(z) => bytes::complement(z),
+    }
+}
+
+fn plain_bits(v: OptionU64) -> u64
+    ensures { λ r. ⌜ r ≡ bitsOf asBits (bitsIn v) ⌝ }
+{
+    match v {
+        OptionU64::Absent => 0,
+        OptionU64::Is(bits) => bits,
+    }
+}
+
+// ---- the parts of a sheet: each appends at `at`, and returns the place behind what it wrote
+
+// The `n` bytes of `src` that stand at `from`.
+pub fn put_bytes(buf: &mut [u8], at: usize, src: &[u8], from: usize, n: usize) -> usize
+    requires { ⌜ (at + n ≤ length (now buf)) × (from + n ≤ length (now src)) ⌝ }
+    ensures { λ r. ⌜ Wrote (now (buf .entry)) at n (take n (drop from (now (src .entry)))) (now (buf .exit)) r ⌝ }
+{
+    let mut i = 0;
+    while i < n {
+        buf[at + i] = src[from + i];
+        i += 1;
+    }
+    at + n
+}
+
+// Bytes 0 to 5.
+fn put_sizes(buf: &mut [u8], at: usize, groups: u16, entries: usize, values: usize) -> usize
+    requires { ⌜ (at + 6 ≤ length (now buf)) × (entries < 65536) × (values < 65536) ⌝ }
+    ensures { λ r. ⌜ Wrote (now (buf .entry)) at 6 (leBytes 2 groups ++ leBytes 2 entries ++ leBytes 2 values) (now (buf .exit)) r ⌝ }
+{
+    let end = bytes::put_u16(buf, at, groups);
+    let end = bytes::put_u16(buf, end, entries as u16);
+    bytes::put_u16(buf, end, values as u16)
+}
+
+// Bytes 6 to 11.
+fn put_flags(buf: &mut [u8], at: usize, nature: u8, head: Head) -> usize
+    requires { ⌜ at + 6 ≤ length (now buf) ⌝ }
+    ensures { λ r. ⌜ Wrote (now (buf .entry)) at 6 (flagBytes nature (headFields head)) (now (buf .exit)) r ⌝ }
+{
+    let end = bytes::put_u8(buf, at, nature);
+    let end = bytes::put_u8(buf, end, head.data_type);
+    let end = bytes::put_u8(buf, end, flag_byte(head.nullity));
+    let end = bytes::put_u8(buf, end, flag_byte(head.releasable));
+    let end = bytes::put_u8(buf, end, flag_byte(head.not_empty));
+    bytes::put_u8(buf, end, flag_byte(head.ordered))
+}
+
+// Bytes 20 to 24.
+fn put_presence(buf: &mut [u8], at: usize, head: Head) -> usize
+    requires { ⌜ at + 5 ≤ length (now buf) ⌝ }
+    ensures { λ r. ⌜ Wrote (now (buf .entry)) at 5 (presenceBytes (headFields head)) (now (buf .exit)) r ⌝ }
+{
+    let rows = head.rows;
+    let columns = head.columns;
+    let dataset = head.dataset;
+    let dimensionality = head.dimensionality;
+    let sample = head.sample;
+    let end = bytes::put_u8(buf, at, signed_mark(rows));
+    let end = bytes::put_u8(buf, end, plain_mark(columns));
+    let end = bytes::put_u8(buf, end, signed_mark(dataset));
+    let end = bytes::put_u8(buf, end, signed_mark(dimensionality));
+    bytes::put_u8(buf, end, plain_mark(sample))
+}
+
+// Bytes 6 to 31; the last 7 are zero.
+fn put_marks(buf: &mut [u8], at: usize, nature: u8, head: Head) -> usize
+    requires { ⌜ at + 26 ≤ length (now buf) ⌝ }
+    ensures { λ r. ⌜ Wrote (now (buf .entry)) at 26 (markBytes nature (headFields head)) (now (buf .exit)) r ⌝ }
+{
+    let end = put_flags(buf, at, nature, head);
+    let end = bytes::put_u32(buf, end, head.c_stability);
+    let end = bytes::put_u32(buf, end, head.aggregator);
+    let end = put_presence(buf, end, head);
+    let end = bytes::put_u32(buf, end, 0);
+    let end = bytes::put_u16(buf, end, 0);
+    bytes::put_u8(buf, end, 0)
+}
+
+// Bytes 32 to 71.
+fn put_values(buf: &mut [u8], at: usize, head: Head) -> usize
+    requires { ⌜ at + 40 ≤ length (now buf) ⌝ }
+    ensures { λ r. ⌜ Wrote (now (buf .entry)) at 40 (valueBytes (headFields head)) (now (buf .exit)) r ⌝ }
+{
+    let rows = head.rows;
+    let columns = head.columns;
+    let dataset = head.dataset;
+    let dimensionality = head.dimensionality;
+    let sample = head.sample;
+    let end = bytes::put_u64(buf, at, signed_bits(rows));
+    let end = bytes::put_u64(buf, end, plain_bits(columns));
+    let end = bytes::put_u64(buf, end, signed_bits(dataset));
+    let end = bytes::put_u64(buf, end, signed_bits(dimensionality));
+    bytes::put_u64(buf, end, plain_bits(sample))
+}
+
+// The first 80 bytes: what stands before the arrays.
+fn put_front(buf: &mut [u8], groups: u16, p: Parts, head: Head, node: i64) -> usize
+    requires { ⌜ (80 ≤ length (now buf)) × (p .entries < 65536) × (p .values < 65536) ⌝ }
+    ensures { λ r. ⌜ Wrote (now (buf .entry)) 0 80 (frontBytes groups p (headFields head) node) (now (buf .exit)) r ⌝ }
+{
+    let end = put_sizes(buf, 0, groups, p.entries, p.values);
+    let end = put_marks(buf, end, p.nature, head);
+    let end = put_values(buf, end, head);
+    bytes::put_i64(buf, end, node)
+}
+
+// The sheet with the fields of `head`, the groups of the sheet `source`, and a nature whose arrays stand in `first` and `second`.
+pub fn put_sheet(
+    buf: &mut [u8],
+    p: Parts,
+    first: &[u8],
+    second: &[u8],
+    head: Head,
+    node: i64,
+    source: &[u8],
+) -> usize
+    requires { ⌜ Room p (now first) (now second) (now source) (now buf) ⌝ }
+    ensures { λ r. ⌜ Wrote (now (buf .entry)) 0 (80 + 13 * groupCount narrow (now (source .entry)) + p .first + p .second) (sheetFrom narrow (headFields head) node (groupsIn narrow (now (source .entry))) (partsIn p (now (first .entry)) (now (second .entry)))) (now (buf .exit)) r ⌝ }
+{
+    let groups = bytes::u16_at(source, GROUPS_AT);
+    let end = put_front(buf, groups, p, head, node);
+    let end = put_bytes(buf, end, source, ARRAYS_AT, GROUP_SIZE * (groups as usize));
+    let end = put_bytes(buf, end, first, 0, p.first);
+    put_bytes(buf, end, second, 0, p.second)
 }

@@ -1,0 +1,36 @@
+-- `writer::put_marks` meets its contract: the appends of its parts; zeros are the bytes of a zero. Assumes nothing.
+use borrow.Author.Needs.{needs}
+use Rattle.bytes.proofs.Appends.{and-then}
+use Rattle.bytes.specs.Le.{leBytes}
+use Rattle.base.specs.Encode.{markBytes}
+use Rattle.writer.proofs.put_marks.Statement.{statement}
+use Rattle.writer.proofs.put_marks.Tie as tie
+
+returns : tie.Need-returns
+unfolding markBytes leBytes
+returns c =
+    let seventh = c .before .before in
+    let sixth = seventh .before .before .before .before in
+    let fifth = sixth .before .before .before .before in
+    let fourth = fifth .before .before .before .before in
+    let third = fourth .before .before .before .before in
+    let second = third .before .before .before .before in
+    let first = second .before .before .before .before in
+    let zeros = and-then (and-then (fifth .put-u323 .ensures) (sixth .put-u16 .ensures)) (seventh .put-u8 .ensures) in
+    and-then
+    (and-then (and-then (and-then (first .put-flags .ensures) (second .put-u32 .ensures)) (third .put-u322 .ensures)) (fourth .put-presence .ensures))
+    zeros
+
+pub put-marks-spec : {M : Type 1} → statement M
+put-marks-spec =
+    tie.close
+    (tie.spec
+    (λ c κs. search needs)
+    (λ c κs. search needs)
+    (λ c κs. search needs)
+    (λ c κs. search needs)
+    (λ c κs. search needs)
+    (λ c κs. search needs)
+    (λ c κs. search needs)
+    (λ c. search needs)
+    returns)
