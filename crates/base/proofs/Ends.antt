@@ -39,16 +39,16 @@ float-back : (e : Option Ieee.Float) → floatEnd (ofFloat e) ≡ e
 float-back none = refl
 float-back (some x) = refl
 
-module _ (floats : Bool) (at : ℕ) (s : List ℕ) where
-  pub whole-end : floats ≡ false → wholeEnd (boundAt floats at s) ≡ endAt asWhole at s
+module _ {floats : Bool} (at : ℕ) (s : List ℕ) {b : Bound} (e : b ≡ boundAt floats at s) where
+  pub whole-end : floats ≡ false → wholeEnd b ≡ endAt asWhole at s
   unfolding boundAt
   whole-end h =
-      ap (λ (b : Bool). wholeEnd (cond b (ofFloat (endAt asFloat at s)) (ofWhole (endAt asWhole at s)))) h ∙ whole-back (endAt asWhole at s)
+      ap wholeEnd e ∙ ap (λ (t : Bool). wholeEnd (cond t (ofFloat (endAt asFloat at s)) (ofWhole (endAt asWhole at s)))) h ∙ whole-back (endAt asWhole at s)
 
-  pub float-end : floats ≡ true → floatEnd (boundAt floats at s) ≡ endAt asFloat at s
+  pub float-end : floats ≡ true → floatEnd b ≡ endAt asFloat at s
   unfolding boundAt
   float-end h =
-      ap (λ (b : Bool). floatEnd (cond b (ofFloat (endAt asFloat at s)) (ofWhole (endAt asWhole at s)))) h ∙ float-back (endAt asFloat at s)
+      ap floatEnd e ∙ ap (λ (t : Bool). floatEnd (cond t (ofFloat (endAt asFloat at s)) (ofWhole (endAt asWhole at s)))) h ∙ float-back (endAt asFloat at s)
 
 -- a float between the infinities is finite
 pub between : (x : Ieee.Float) → (Ieee.lt (Ieee.inf true) x && Ieee.lt x (Ieee.inf false)) ≡ finite x

@@ -5,9 +5,11 @@ use mathlib.Core.Bool.{Bool, true, false, cond, not, _&&_}
 use Prim.Native.Nat.{ℕ, zero, suc, _+_, _-_, _≤_, _<_}
 use native.Mathlib.Nat.{sub-zero}
 use native.Mathlib.Omega.{arith}
-use borrow.Author.Tests.{not-true, not-false}
+use lib.Dec.{eqb}
+use borrow.Author.Tests.{not-true, not-false, eqb-true, eqb-false}
 use Rattle.utilities.specs.Lists.{listFrom, every}
 use Rattle.base.specs.Checks.{holdsFrom}
+use Rattle.base.proofs.Flags.{and-both}
 
 -- i is the next number to be tested, and n the end
 pub record Holding (p : ℕ → Bool) (n i : ℕ) (all : Bool) : Type 0 where
@@ -42,6 +44,18 @@ module _ {p : ℕ → Bool} {n i : ℕ} {all : Bool} (inv : Holding p n i all) w
   holding-done h =
       let e : n - i ≡ 0 = omega arith in
       sym (ap (λ (k : ℕ). holdsFrom k i p) e) ∙ inv .rest
+
+-- a test that holds from i on holds at each of the n numbers
+pub holds-within : (p : ℕ → Bool) (n i k : ℕ) → holdsFrom n i p ≡ true → i ≤ k → k < i + n → p k ≡ true
+unfolding holdsFrom
+holds-within p zero i k e a b = absurd (omega arith)
+holds-within p (suc n) i k e a b =
+    let both = and-both (p i) (holdsFrom n (i + 1) p) e in
+    go (eqb i k) refl (both .0) (λ above. holds-within p n (i + 1) k (both .1) above (omega arith))
+  where
+    go : (t : Bool) → eqb i k ≡ t → p i ≡ true → (i + 1 ≤ k → p k ≡ true) → p k ≡ true
+    go true h here later = ap p (sym (eqb-true i k h)) ∙ here
+    go false h here later = let other = eqb-false i k h in later (omega arith)
 
 -- a test of every value of a list that is made number by number
 pub every-from : {X : Type 0} (p : X → Bool) (f : ℕ → X) (n i : ℕ) → every p (listFrom n i f) ≡ holdsFrom n i (λ k. p (f k))

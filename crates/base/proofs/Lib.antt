@@ -2,6 +2,7 @@
 pub mod Flags
 pub mod Holding
 pub mod Passed
+pub mod Permitted
 pub mod Ends
 pub mod Natures
 pub mod Numbers

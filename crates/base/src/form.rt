@@ -1,8 +1,9 @@
-// The stored form of a sheet: limits, places and numbers, as specs/Form.antt has them. No other text names one of them by its value.
+// The stored form of a sheet: limits, places and numbers, as specs/Form.antt has them. The code has them from here alone.
 ghost use mathlib.Core.Path.{_≡_};
 ghost use Prim.Native.Nat.{_≤_};
 ghost use Rattle.base.specs.Form.{narrow, isRangeNature, partitionAt, keyAt, lowerAt, upperAt, numberAt, valueAt, calledFor};
 
+// Limits of the sizes and of the columns.
 pub const GROUP_LIMIT: usize = 4;
 
 pub const LIST_LIMIT: usize = 16;
@@ -49,7 +50,9 @@ pub const SAMPLE_MARK_AT: usize = 24;
 
 pub const RESERVED_AT: usize = 25;
 
-pub const RESERVED_END: usize = 32;
+pub const RESERVED_COUNT: usize = 7;
+
+pub const RESERVED_END: usize = RESERVED_AT + RESERVED_COUNT;
 
 // 64 bits each.
 pub const ROWS_AT: usize = 32;
@@ -86,6 +89,7 @@ pub const CATEGORY_WIDTH: usize = NUMBER_WIDTH + VALUE_WIDTH;
 // The longest sheet, and a plan's slot.
 pub const LONGEST: usize = ARRAYS_AT + GROUP_WIDTH * GROUP_LIMIT + CATEGORY_WIDTH * CATEGORY_LIMIT;
 
+// Natures.
 pub const ABSENT_NATURE: u8 = 0;
 
 pub const WHOLE_RANGE: u8 = 1;
@@ -100,16 +104,19 @@ pub const FLOAT_LISTS: u8 = 5;
 
 pub const LAST_NATURE: u8 = FLOAT_LISTS;
 
+// Data types that rules look at.
 pub const FLOAT_TYPE: u8 = 3;
 
 pub const INT_TYPE: u8 = 4;
 
 pub const LAST_TYPE: u8 = INT_TYPE;
 
+// Kinds of a group's index.
 pub const BOOL_KEY: u8 = 2;
 
 pub const LAST_KEY: u8 = 3;
 
+// Whether a nature is a range, of either kind.
 pub fn is_range(nature: u8) -> bool
     ensures { λ r. ⌜ r ≡ isRangeNature nature ⌝ }
 {

@@ -200,6 +200,7 @@ pub fn sizes_at(s: &[u8]) -> Sizes
     }
 }
 
+// The signed 64 bits at `at`, where the byte at `mark` is not 0.
 fn option_i64_at(s: &[u8], mark: usize, at: usize) -> OptionI64
     requires { ⌜ (mark < length (now s)) × (at + 8 ≤ length (now s)) ⌝ }
     ensures { λ r. ⌜ signedOf r ≡ optionAt asWhole mark at (now (s .entry)) ⌝ }
@@ -210,6 +211,7 @@ fn option_i64_at(s: &[u8], mark: usize, at: usize) -> OptionI64
     OptionI64::Is(bytes::i64_at(s, at))
 }
 
+// The 64 bits at `at`, where the byte at `mark` is not 0.
 fn option_u64_at(s: &[u8], mark: usize, at: usize) -> OptionU64
     requires { ⌜ (mark < length (now s)) × (at + 8 ≤ length (now s)) ⌝ }
     ensures { λ r. ⌜ bitsIn r ≡ optionAt asBits mark at (now (s .entry)) ⌝ }
@@ -220,6 +222,7 @@ fn option_u64_at(s: &[u8], mark: usize, at: usize) -> OptionU64
     OptionU64::Is(bytes::u64_at(s, at))
 }
 
+// The fields of one value; what they are worth is for the checks to say.
 pub fn read_head(s: &[u8]) -> Head
     requires { ⌜ narrow .arraysAt ≤ length (now s) ⌝ }
     ensures { λ r. ⌜ headFields r ≡ fieldsIn narrow (now (s .entry)) ⌝ }
@@ -247,6 +250,7 @@ pub fn read_head(s: &[u8]) -> Head
     }
 }
 
+// The number of the node that made the sheet.
 pub fn node_at(s: &[u8]) -> i64
     requires { ⌜ narrow .arraysAt ≤ length (now s) ⌝ }
     ensures { λ r. ⌜ r ≡ asWhole (leAt 8 (place narrow nodeAt) (now (s .entry))) ⌝ }

@@ -6,7 +6,7 @@ use Rattle.base.proofs.checks.bytes_permitted.Tie as tie
 
 returns : tie.Need-returns
 unfolding bytesPermitted
-returns c = cc
+returns c = rw (c .reserved-permitted .ensures)
 
 pub bytes-permitted-spec : {M : Type 1} → statement M
 bytes-permitted-spec =

@@ -27,7 +27,9 @@ nature-permitted-requires c κs =
 
 returns : tie.Need-returns
 unfolding fieldsFail
-returns c = cc
+returns c =
+    let v = c .before .before in
+    rw (v .before .bytes-permitted .ensures, v .values-permitted .ensures, c .before .groups-permitted .ensures, c .nature-permitted .ensures)
 
 pub fields-fail-spec : {M : Type 1} → statement M
 fields-fail-spec =

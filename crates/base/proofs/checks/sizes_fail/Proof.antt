@@ -57,7 +57,7 @@ returns-5 c =
     let g : groupCount narrow s ≤ 4 = omega arith in
     let n : listCount narrow s ≤ 16 = omega arith in
     let t : categoryCount narrow s ≤ 128 = omega arith in
-    let l : c .called-for .result ≡ lengthCalledFor narrow s = cc in
+    let l : c .called-for .result ≡ lengthCalledFor narrow s = rw (c .called-for .ensures, z .groups, z .lists, z .categories) in
     rw (
       le-ltb (length s) 80 (c .before .before .before .before .before .before .if1 .left),
       le-ltb 4 (groupCount narrow s) g,

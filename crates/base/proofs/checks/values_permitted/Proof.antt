@@ -6,7 +6,16 @@ use Rattle.base.proofs.checks.values_permitted.Tie as tie
 
 returns : tie.Need-returns
 unfolding valuesPermitted
-returns c = cc
+returns c =
+    let b = c .before .before .before in
+    rw (
+      b .before .before .mark-permitted .ensures,
+      b .before .mark-permitted2 .ensures,
+      b .columns-permitted .ensures,
+      c .before .before .mark-permitted3 .ensures,
+      c .before .mark-permitted4 .ensures,
+      c .mark-permitted5 .ensures,
+    )
 
 pub values-permitted-spec : {M : Type 1} → statement M
 values-permitted-spec =
