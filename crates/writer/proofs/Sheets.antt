@@ -32,7 +32,7 @@ module _ (F : Form) where
   sheet-written s = rw (arrays (s .nature)) (simp append-assoc)
 
 -- the bytes of list elements that are all n bytes long
-joined-length : {X : Type 0} (bytes : X → List ℕ) (n : ℕ) → ((x : X) → length (bytes x) ≡ n) → (xs : List X) → length (joined bytes xs) ≡ n * length xs
+pub joined-length : {X : Type 0} (bytes : X → List ℕ) (n : ℕ) → ((x : X) → length (bytes x) ≡ n) → (xs : List X) → length (joined bytes xs) ≡ n * length xs
 unfolding joined
 joined-length bytes n h [] = omega arith
 joined-length bytes n h (x ∷ xs) = simp length-append (rw mul-suc (omega (arith, h x, joined-length bytes n h xs)))

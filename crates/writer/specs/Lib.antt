@@ -1,2 +1,4 @@
 pub mod Written
 pub mod Room
+pub mod Laid
+pub mod WellFormed
