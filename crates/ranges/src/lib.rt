@@ -1,1 +1,179 @@
 // Ranges, column by column.
+use base::Component;
+use base::Sizes;
+use base::form;
+use ends::Ends;
+use ends::Range;
+use writer::Derived;
+use writer::Parts;
+ghost use mathlib.Core.Path.{_≡_};
+ghost use mathlib.Core.Bool.{true, false};
+ghost use Prim.Native.Nat.{_*_, _≤_, _<_};
+ghost use lib.ListN.{length};
+ghost use Rattle.base.specs.Form.{narrow, natureAt, byteAt, isRangeNature};
+ghost use Rattle.base.specs.Checks.{sizesFail};
+ghost use Rattle.base.specs.Sized.{RangeFits};
+ghost use Rattle.writer.specs.Written.{inWriting, derivedIn, Within};
+ghost use Rattle.ranges.specs.Ranges.{rangeNature};
+ghost use Rattle.ranges.specs.Chained.{spreadsOver, entryOf, rangeAt, columnEnds, columnAt, rangeNumber, rangeParts, columnsFrom};
+
+// A bound list has neither one entry nor one per output column.
+const UNEVEN_LIST: u32 = 18;
+
+// Whether a list has one entry, or one per column.
+fn spreads(columns: usize, n: usize) -> bool
+    ensures { λ r. ⌜ r ≡ spreadsOver columns n ⌝ }
+{
+    (n == columns) | (n == 1)
+}
+
+// The entry of n that column j takes: its own, or the only one.
+fn entry_of(columns: usize, n: usize, j: usize) -> usize
+    requires { ⌜ (spreadsOver columns n ≡ true) × (j < columns) ⌝ }
+    ensures { λ r. ⌜ (r ≡ entryOf n j) × (r < n) ⌝ }
+{
+    if n == 1 { 0 } else { j }
+}
+
+// Entry i of n.
+fn entry_at(s: &[u8], float: bool, g: usize, n: usize, i: usize) -> Range
+    requires { ⌜ RangeFits narrow (now s) g n × (i < n) ⌝ }
+    ensures { λ r. ⌜ r ≡ rangeAt float (now (s .entry)) i ⌝ }
+{
+    let lower = base::bound_at(s, float, form::lower_at(g, i));
+    let upper = base::bound_at(s, float, form::upper_at(g, n, i));
+    Range { lower, upper }
+}
+
+// The ends of one column. Modulo has no end rule for whole ranges of a type other than Int.
+fn column(c: Component, data_type: u8, float: bool, x: Range, y: Range) -> Ends
+    ensures { λ r. ⌜ r ≡ columnEnds float c data_type x y ⌝ }
+{
+    if float {
+        return float_ends::float_end_rule(c, x, y);
+    }
+    if (c.number() == Component::MODULO) & (data_type != form::INT_TYPE) {
+        return ends::unknown();
+    }
+    whole_ends::whole_end_rule(c, x, y)
+}
+
+// The ends of column j.
+fn column_at(
+    c: Component,
+    data_type: u8,
+    float: bool,
+    columns: usize,
+    left: &[u8],
+    l: Sizes,
+    right: &[u8],
+    r: Sizes,
+    j: usize,
+) -> Ends
+    requires { ⌜ RangeFits narrow (now left) (l .groups) (l .lists) × (spreadsOver columns (l .lists) ≡ true) × RangeFits narrow (now right) (r .groups) (r .lists) × (spreadsOver columns (r .lists) ≡ true) × (j < columns) ⌝ }
+    ensures { λ e. ⌜ e ≡ columnAt float c data_type (now (left .entry)) (now (right .entry)) j ⌝ }
+{
+    let i = entry_of(columns, l.lists, j);
+    let x = entry_at(left, float, l.groups, l.lists, i);
+    let k = entry_of(columns, r.lists, j);
+    let y = entry_at(right, float, r.groups, r.lists, k);
+    column(c, data_type, float, x, y)
+}
+
+// The nature's number in 01.
+fn range_number(float: bool) -> u8
+    ensures { λ r. ⌜ r ≡ rangeNumber float ⌝ }
+{
+    if float {
+        form::FLOAT_RANGE
+    } else {
+        form::WHOLE_RANGE
+    }
+}
+
+// A range whose lowers and uppers stand in the two buffers.
+fn range_parts(float: bool, columns: usize) -> Parts
+    requires { ⌜ columns ≤ narrow .columnLimit ⌝ }
+    ensures { λ r. ⌜ r ≡ rangeParts float columns ⌝ }
+{
+    let length = form::END_WIDTH * columns;
+    Parts {
+        nature: range_number(float),
+        entries: columns,
+        values: 0,
+        first: length,
+        second: length,
+    }
+}
+
+// Appends the ends of each column, or answers the first refusal.
+fn put_columns(
+    c: Component,
+    data_type: u8,
+    float: bool,
+    columns: usize,
+    left: &[u8],
+    l: Sizes,
+    right: &[u8],
+    r: Sizes,
+    lowers: &mut [u8],
+    uppers: &mut [u8],
+) -> Derived
+    requires { ⌜ RangeFits narrow (now left) (l .groups) (l .lists) × (spreadsOver columns (l .lists) ≡ true) × RangeFits narrow (now right) (r .groups) (r .lists) × (spreadsOver columns (r .lists) ≡ true) × (columns ≤ narrow .columnLimit) × (9 * columns ≤ length (now lowers)) × (9 * columns ≤ length (now uppers)) ⌝ }
+    ensures { λ d. ⌜ (derivedIn d (now (lowers .exit)) (now (uppers .exit)) ≡ columnsFrom (rangeNumber float) (columnAt float c data_type (now (left .entry)) (now (right .entry))) columns 0) × Within d ⌝ }
+{
+    let mut at = 0;
+    let mut j = 0;
+    while j < columns {
+        let e = column_at(c, data_type, float, columns, left, l, right, r, j);
+        match e {
+            Ends::Refused(k) => {
+                return Derived::Refused(k);
+            }
+            Ends::Are(z) => {
+                let lower = z.lower;
+                let upper = z.upper;
+                base::put_bound(lowers, at, lower);
+                at = base::put_bound(uppers, at, upper);
+            }
+        }
+        j += 1;
+    }
+    Derived::Nature(range_parts(float, columns))
+}
+
+// The range derived of two sheets' ranges, which are both float or both whole: its lowers and uppers stand at the start of the two buffers.
+pub fn range_pair(
+    c: Component,
+    data_type: u8,
+    float: bool,
+    columns: usize,
+    left: &[u8],
+    right: &[u8],
+    lowers: &mut [u8],
+    uppers: &mut [u8],
+) -> Derived
+    requires { ⌜ (sizesFail narrow (now left) ≡ false) × (isRangeNature (byteAt narrow natureAt (now left)) ≡ true) × (sizesFail narrow (now right) ≡ false) × (isRangeNature (byteAt narrow natureAt (now right)) ≡ true) × (columns ≤ narrow .columnLimit) × (9 * columns ≤ length (now lowers)) × (9 * columns ≤ length (now uppers)) ⌝ }
+    ensures { λ r. ⌜ (derivedIn r (now (lowers .exit)) (now (uppers .exit)) ≡ inWriting narrow (rangeNature narrow float c data_type columns (now (left .entry)) (now (right .entry)))) × Within r ⌝ }
+{
+    let l = base::sizes_at(left);
+    if !spreads(columns, l.lists) {
+        return Derived::Refused(UNEVEN_LIST);
+    }
+    let r = base::sizes_at(right);
+    if !spreads(columns, r.lists) {
+        return Derived::Refused(UNEVEN_LIST);
+    }
+    put_columns(
+        c,
+        data_type,
+        float,
+        columns,
+        left,
+        l,
+        right,
+        r,
+        lowers,
+        uppers,
+    )
+}

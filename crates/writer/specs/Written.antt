@@ -1,12 +1,12 @@
 -- A nature as it is written: its number, its sizes, and the bytes of its two arrays.
 use mathlib.Core.List.{List, [], _++_}
-use Prim.Native.Nat.{ℕ, _-_}
+use Prim.Native.Nat.{ℕ, _+_, _-_, _*_, _≤_}
 use lib.IntN.{ℤ}
 use lib.ListN.{length, take, replicate}
 use Rattle.bytes.specs.Le.{leBytes}
 use Rattle.numbers.specs.Result.{Result, ok, refused, andThen}
 use Rattle.numbers.specs.Kind.{Span}
-use Rattle.base.specs.Form.{Form, place, fieldsEnd}
+use Rattle.base.specs.Form.{Form, narrow, place, fieldsEnd}
 use Rattle.base.specs.Sheet.{Group, Nature, absent, wholeRange, floatRange, wholeLists, boolLists, floatLists, Fields}
 use Rattle.base.specs.Decode.{asBits}
 use Rattle.base.specs.Encode.{joined, endBytes, wholeBits, floatBits, numbersFrom, markBytes, valueBytes, groupBytes, natureNumber, entryCount, valueCount}
@@ -91,3 +91,22 @@ partsIn p f s = record {
 abbrev pub derivedIn : Derived → List ℕ → List ℕ → Result Written
 derivedIn (D.Nature p) f s = ok (partsIn p f s)
 derivedIn (D.Refused k) f s = refused k
+
+-- how long the two buffers are: lowers of a range or list numbers, and uppers or values
+abbrev pub firstRoom : ℕ
+firstRoom = 9 * narrow .listLimit
+
+abbrev pub secondRoom : ℕ
+secondRoom = 8 * narrow .categoryLimit
+
+-- a nature's parts keep to the sheet's limits and to the two buffers
+pub record Placed (p : Parts) : Type 0 where
+  pub entries : p .entries ≤ narrow .listLimit
+  pub values : p .values ≤ narrow .categoryLimit
+  pub first : p .first ≤ firstRoom
+  pub second : p .second ≤ secondRoom
+  pub both : p .first + p .second ≤ (narrow .numberWidth + 8) * narrow .categoryLimit
+
+abbrev pub Within : Derived → Type 0
+Within (D.Nature p) = Placed p
+Within (D.Refused k) = Unit {0}
