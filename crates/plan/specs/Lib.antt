@@ -2,3 +2,6 @@ pub mod Form
 pub mod Walk
 pub mod Exact
 pub mod Demand
+pub mod Within
+pub mod Asks
+pub mod Good

@@ -1,0 +1,159 @@
+-- What the checks 14 to 16 of Modulo, Log and Power leave of the operands' natures. Assumes nothing.
+use mathlib.Core.Path.{_≡_, refl, sym, ap₂, subst, _∙_}
+use mathlib.Core.Bool.{Bool, true, false, cond, not, _&&_}
+use mathlib.Core.List.{List, [], _∷_, _++_}
+use mathlib.Core.Logic.{⊎-elim}
+use mathlib.Core.Option.{Option, none, some}
+use Prim.Native.Nat.{ℕ, zero, suc, _<_}
+use native.Mathlib.Omega.{arith}
+use lib.Dec.{T}
+use lib.Ieee.{Float}
+use lib.IntN.{ℤ}
+use lib.ListN.{length, getD, getElem?}
+use borrow.Author.Tests.{eq-eqb}
+use Rattle.numbers.specs.Result.{Result, ok, Check, check, checked}
+use Rattle.numbers.specs.Kind.{Span}
+use Rattle.numbers.proofs.Results.{checked-passed}
+use Rattle.utilities.specs.Lists.{every}
+use Rattle.utilities.proofs.Built.{every-at}
+use Rattle.base.specs.Bounds.{everyEntry, lowersPresent, uppersPresent, lowersPositive, lowersNonNegative}
+use Rattle.base.specs.Form.{floatType, intType}
+use Rattle.base.specs.Sheet.{Sheet, Nature, absent, wholeRange, floatRange, wholeLists, boolLists, floatLists, isWholeRange}
+use Rattle.ends.specs.Ends.{spanOf}
+use Rattle.shape.specs.Orders.{operandChecks, bothOf, moduloChecks, logChecks, powerChecks, copyChecks}
+use Rattle.shape.specs.Shape.{columnsAbsent}
+use Rattle.plan.specs.Demand.{entryFor, OneOrPerColumn}
+use Rattle.plan.specs.Asks.{LowerAboveZero, LowerNotNegative}
+use Rattle.plan.specs.Good.{Fitting, Spread, OfRange}
+use Rattle.plan.proofs.Answers.{checked-after, checked-before}
+use Rattle.plan.proofs.Columns.{entry-full, entry-one}
+use Rattle.plan.proofs.Nodes.{Reaches}
+
+-- the checks between those of the operands and 11
+pub bounds-passed : {X : Type 0} {x : X} (l r : Sheet) (bs : List Check) (rest : Result X)
+    → checked (copyChecks l r bs) rest ≡ ok x → checked bs (ok x) ≡ ok x
+bounds-passed l r bs rest e =
+    checked-before (check 11 (columnsAbsent (l .fields)) ∷ []) rest bs
+    (checked-after (bs ++ (check 11 (columnsAbsent (l .fields)) ∷ [])) rest (operandChecks (l .fields) ++ operandChecks (r .fields)) e)
+
+not-false : (t : Bool) → not t ≡ false → t ≡ true
+not-false true e = refl
+not-false false e = absurd (subst T e tt)
+
+left-true : (s t : Bool) → s && t ≡ true → s ≡ true
+left-true true t e = refl
+left-true false t e = e
+
+-- the second of two checks
+second : {X : Type 0} {x : X} (c : Check) (k : ℕ) (b : Bool) → checked (c ∷ check k (not b) ∷ []) (ok x) ≡ ok x → b ≡ true
+second {x} c k b e = not-false b (checked-passed (check k (not b)) [] (ok x) (checked-passed c (check k (not b) ∷ []) (ok x) e .1) .0)
+
+modulo-passed : {X : Type 0} {x : X} (l r : Sheet) → checked (moduloChecks l r) (ok x) ≡ ok x → lowersPositive (r .nature) ≡ true
+modulo-passed {x} l r e = go (bothOf l r intType) (bothOf l r floatType) _ _ 16 (lowersPositive (r .nature)) e
+  where
+    go : (s t : Bool) (c d : Check) (k : ℕ) (b : Bool)
+        → checked (cond s (c ∷ check k (not b) ∷ []) (cond t (d ∷ check k (not b) ∷ []) (check 14 true ∷ []))) (ok x) ≡ ok x → b ≡ true
+    go true t c d k b e = second c k b e
+    go false true c d k b e = second d k b e
+    go false false c d k b e = absurd (subst T (checked-passed (check 14 true) [] (ok x) e .0) tt)
+
+-- of Int operands
+power-passed : {X : Type 0} {x : X} (l r : Sheet) → l .fields .dataType ≡ intType → r .fields .dataType ≡ intType
+    → checked (powerChecks l r) (ok x) ≡ ok x → lowersNonNegative (r .nature) ≡ true
+power-passed {x} l r p q e =
+    let h = ap₂ (λ (s t : Bool). s && t) (eq-eqb (l .fields .dataType) intType p) (eq-eqb (r .fields .dataType) intType q) in
+    go (bothOf l r intType) h _ _ 16 (lowersNonNegative (r .nature)) e
+  where
+    go : (s : Bool) → s ≡ true → (c : Check) (cs : List Check) (k : ℕ) (b : Bool) → checked (cond s (c ∷ check k (not b) ∷ []) cs) (ok x) ≡ ok x → b ≡ true
+    go true h c cs k b e = second c k b e
+    go false h c cs k b e = absurd (subst T (sym h) tt)
+
+-- ---- a range whose every entry passed
+
+module _ (p : Span ℤ → Bool) (q : Span Float → Bool) where
+  range-spread : (k : Nature) (m n : ℕ) → everyEntry p q k ≡ true → Fitting k m → Spread k n
+  unfolding everyEntry
+  range-spread absent m n e f = tt
+  range-spread (wholeRange rs) m n e f = tt
+  range-spread (floatRange rs) m n e f = f
+  range-spread (wholeLists ls) m n e f = absurd (subst T (sym e) tt)
+  range-spread (boolLists ls) m n e f = f
+  range-spread (floatLists ls) m n e f = f
+
+  range-whole : (k : Nature) (m : ℕ) → everyEntry p q k ≡ true → Fitting k m → isWholeRange k ≡ true
+  unfolding everyEntry
+  range-whole absent m e f = e
+  range-whole (wholeRange rs) m e f = refl
+  range-whole (floatRange rs) m e f = absurd f
+  range-whole (wholeLists ls) m e f = e
+  range-whole (boolLists ls) m e f = absurd f
+  range-whole (floatLists ls) m e f = absurd f
+
+elem-is {ℓ} : {X : Type ℓ} (xs : List X) (j : ℕ) (d : X) → j < length xs → getElem? xs j ≡ some (getD xs j d)
+elem-is [] j d h = absurd (omega arith)
+elem-is (x ∷ xs) zero d h = refl
+elem-is (x ∷ xs) (suc j) d h = elem-is xs j d (omega arith)
+
+module _ (p : Span ℤ → Bool) (P : Option (Span ℤ) → Type 0) (says : (y : Span ℤ) → p y ≡ true → P (some y)) where
+  entry-says : (rs : List (Span ℤ)) (j : ℕ) → j < length rs → every p rs ≡ true → P (entryFor rs j)
+  entry-says rs j h e =
+      subst P (sym (entry-full rs j h ∙ elem-is rs j (spanOf none none) h)) (says (getD rs j (spanOf none none)) (every-at p rs j (spanOf none none) h e))
+
+  any-says : (rs : List (Span ℤ)) (m j : ℕ) → OneOrPerColumn rs m → Reaches m j → every p rs ≡ true → P (entryFor rs j)
+  any-says rs m j o w e =
+      ⊎-elim
+      (λ (h : length rs ≡ 1). one h)
+      (λ (h : length rs ≡ m). ⊎-elim {C = P (entryFor rs j)} (λ (i : j < m). entry-says rs j (omega arith) e) (λ (i : m ≡ 1). one (h ∙ i)) w)
+      o
+    where
+      one : length rs ≡ 1 → P (entryFor rs j)
+      one h = subst P (entry-one rs 0 j h) (entry-says rs 0 (omega arith) e)
+
+  range-says : (q : Span Float → Bool) (k : Nature) (m j : ℕ) → everyEntry p q k ≡ true → Fitting k m → Reaches m j → OfRange P k j
+  unfolding everyEntry
+  range-says q absent m j e f w = subst T (sym e) tt
+  range-says q (wholeRange rs) m j e f w = any-says rs m j f w e
+  range-says q (floatRange rs) m j e f w = f
+  range-says q (wholeLists ls) m j e f w = subst T (sym e) tt
+  range-says q (boolLists ls) m j e f w = f
+  range-says q (floatLists ls) m j e f w = f
+
+-- ---- Modulo, Power and Log
+
+module _ {X : Type 0} {x : X} (l r : Sheet) (m : ℕ) (f : Fitting (r .nature) m) where
+  pub modulo-spread : (n : ℕ) → checked (moduloChecks l r) (ok x) ≡ ok x → Spread (r .nature) n
+  unfolding lowersPositive
+  modulo-spread n e = range-spread _ _ (r .nature) m n (modulo-passed l r e) f
+
+  pub modulo-says : (j : ℕ) → Reaches m j → checked (moduloChecks l r) (ok x) ≡ ok x → OfRange LowerAboveZero (r .nature) j
+  unfolding lowersPositive
+  modulo-says j w e = range-says _ LowerAboveZero (λ y h. h) _ (r .nature) m j (modulo-passed l r e) f w
+
+  module _ (p : l .fields .dataType ≡ intType) (q : r .fields .dataType ≡ intType) where
+    pub power-spread : (n : ℕ) → checked (powerChecks l r) (ok x) ≡ ok x → Spread (r .nature) n
+    unfolding lowersNonNegative
+    power-spread n e = range-spread _ _ (r .nature) m n (power-passed l r p q e) f
+
+    pub power-says : (j : ℕ) → Reaches m j → checked (powerChecks l r) (ok x) ≡ ok x → OfRange LowerNotNegative (r .nature) j
+    unfolding lowersNonNegative
+    power-says j w e = range-says _ LowerNotNegative (λ y h. h) _ (r .nature) m j (power-passed l r p q e) f w
+
+  -- 15 keeps Log out of whole natures
+  pub log-never : (n : ℕ) → Fitting (l .nature) n → checked (logChecks l r) (ok x) ≡ ok x → ⊥
+  unfolding lowersPresent
+  log-never n g e =
+      let d₂ = checked-passed _ _ (ok x) e in
+      let d₃ = checked-passed _ _ (ok x) (d₂ .1) in
+      let d₄ = checked-passed _ _ (ok x) (d₃ .1) in
+      let d₅ = checked-passed _ _ (ok x) (d₄ .1) in
+      let d₆ = checked-passed _ _ (ok x) (d₅ .1) in
+      let base = left-true (lowersPresent (r .nature)) (uppersPresent (r .nature)) (not-false _ (d₃ .0)) in
+      let data′ = not-false (lowersPresent (l .nature)) (d₅ .0) in
+      let right = range-whole _ _ (r .nature) m base f in
+      let left = range-whole _ _ (l .nature) n data′ g in
+      clash (isWholeRange (l .nature)) (isWholeRange (r .nature)) left right (d₆ .0)
+    where
+      clash : (s t : Bool) → s ≡ true → t ≡ true → s && t ≡ false → ⊥
+      clash true true p q e = subst T e tt
+      clash true false p q e = subst T (sym q) tt
+      clash false t p q e = subst T (sym p) tt
