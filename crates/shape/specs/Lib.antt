@@ -1,3 +1,5 @@
 pub mod Shape
 pub mod Orders
 pub mod Fields
+pub mod Parts
+pub mod Asked

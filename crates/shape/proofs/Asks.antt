@@ -1,0 +1,92 @@
+-- What the ends of a range are asked, by tests of one end; and of every entry, number by number. Assumes nothing.
+use mathlib.Core.Path.{_≡_, refl, ap₂, _∙_}
+use mathlib.Core.Bool.{Bool, true, false, cond, not, _&&_, _||_}
+use mathlib.Core.List.{List}
+use mathlib.Core.Option.{Option, none, some}
+use Prim.Native.Nat.{ℕ}
+use lib.Dec.{eqb}
+use lib.Ieee.{Float}
+use borrow.Author.Tests.{ne-eqb}
+use Rattle.numbers.specs.Kind.{Kind, float, zeroFloat}
+use Rattle.base.specs.Form.{Form, natureAt, byteAt, groupCount, listCount}
+use Rattle.base.specs.Sheet.{absent, wholeRange, floatRange, wholeLists, boolLists, floatLists, isWholeRange}
+use Rattle.base.specs.Decode.{asWhole, asFloat, asBits, spanAt, entries, lists, natureIn}
+use Rattle.base.specs.Bounds.{isPresent, positive, nonNegative, suitsAsBase, everyEntry}
+use Rattle.base.specs.Checks.{holdsFrom}
+use Rattle.base.proofs.Holding.{every-from}
+use Rattle.shape.specs.declared.bounds.Ask.{Ask}
+use Rattle.shape.specs.Fields.{spansZero}
+use Rattle.shape.specs.Asked.{above, under, span, wholeAsked, floatAsked, entryAsked}
+
+module _ {E : Type 0} (K : Kind E) where
+  pub positive-is : (x : Option E) → positive K x ≡ above K (K .zero) x
+  positive-is none = refl
+  positive-is (some a) = refl
+
+  pub non-negative-is : (x : Option E) → nonNegative K x ≡ (isPresent x && not (under K (K .zero) x))
+  non-negative-is none = refl
+  non-negative-is (some a) = refl
+
+  pub suits-is : (x y : Option E) → suitsAsBase K (span x y) ≡ ((above K (K .zero) x && under K (K .one) y) || above K (K .one) x)
+  suits-is none y = refl
+  suits-is (some a) none = refl
+  suits-is (some a) (some c) = refl
+
+spans-is :
+    (x y : Option Float)
+    → spansZero x y
+    ≡ cond (isPresent x) (cond (isPresent y) (under float zeroFloat x && above float zeroFloat y) (above float zeroFloat x)) (cond (isPresent y) (under float zeroFloat y) true)
+spans-is none none = refl
+spans-is none (some f) = refl
+spans-is (some d) none = refl
+spans-is (some d) (some f) = refl
+
+-- by which of the ends are present
+pub spans-by :
+    (x y : Option Float) (a b : Bool) → isPresent x ≡ a → isPresent y ≡ b
+    → spansZero x y ≡ cond a (cond b (under float zeroFloat x && above float zeroFloat y) (above float zeroFloat x)) (cond b (under float zeroFloat y) true)
+spans-by x y a b e f =
+    spans-is x y
+    ∙ ap₂
+    (λ (a b : Bool). cond a (cond b (under float zeroFloat x && above float zeroFloat y) (above float zeroFloat x)) (cond b (under float zeroFloat y) true))
+    e
+    f
+
+-- ---- every entry
+
+module _ (F : Form) (s : List ℕ) (ask : Ask) where
+  pub every-whole : everyEntry (wholeAsked ask) (floatAsked ask) (wholeRange (entries F s asWhole)) ≡ holdsFrom (listCount F s) 0 (entryAsked F ask false s)
+  unfolding everyEntry entries
+  every-whole = every-from (wholeAsked ask) (spanAt F s asWhole (groupCount F s) (listCount F s)) (listCount F s) 0
+
+  pub every-float : everyEntry (wholeAsked ask) (floatAsked ask) (floatRange (entries F s asFloat)) ≡ holdsFrom (listCount F s) 0 (entryAsked F ask true s)
+  unfolding everyEntry entries
+  every-float = every-from (floatAsked ask) (spanAt F s asFloat (groupCount F s) (listCount F s)) (listCount F s) 0
+
+  -- what is no range passes nothing
+  pub no-range-asked : (byteAt F natureAt s ≡ 1 → ⊥) → (byteAt F natureAt s ≡ 2 → ⊥) → everyEntry (wholeAsked ask) (floatAsked ask) (natureIn F s) ≡ false
+  unfolding natureIn everyEntry
+  no-range-asked x y =
+      let k = byteAt F natureAt s in
+      rw (ne-eqb k 1 x, ne-eqb k 2 y) (go (eqb k 3) (eqb k 4) (eqb k 5))
+    where
+      go : (a b c : Bool)
+          → everyEntry (wholeAsked ask) (floatAsked ask) (cond a (wholeLists (lists F s asWhole)) (cond b (boolLists (lists F s asBits)) (cond c (floatLists (lists F s asBits)) absent))) ≡ false
+      go true b c = refl
+      go false true c = refl
+      go false false true = refl
+      go false false false = refl
+
+module _ (F : Form) (s : List ℕ) where
+  pub whole-range-is : isWholeRange (natureIn F s) ≡ eqb (byteAt F natureAt s) 1
+  unfolding natureIn
+  whole-range-is = let k = byteAt F natureAt s in go (eqb k 1) (eqb k 2) (eqb k 3) (eqb k 4) (eqb k 5)
+    where
+      go : (a b c d e : Bool)
+          → isWholeRange (cond a (wholeRange (entries F s asWhole)) (cond b (floatRange (entries F s asFloat)) (cond c (wholeLists (lists F s asWhole)) (cond d (boolLists (lists F s asBits)) (cond e (floatLists (lists F s asBits)) absent))))) ≡ a
+      go true b c d e = refl
+      go false true c d e = refl
+      go false false true d e = refl
+      go false false false true e = refl
+      go false false false false true = refl
+      go false false false false false = refl

@@ -1,0 +1,145 @@
+-- The lists of checks, part by part. Assumes nothing.
+use mathlib.Core.Path.{_≡_, refl, sym, ap, ap₂, _∙_}
+use mathlib.Core.Bool.{Bool, true, false, cond, not, _&&_}
+use mathlib.Core.List.{List, [], _∷_, _++_}
+use Prim.Native.Nat.{ℕ}
+use lib.Dec.{eqb}
+use Rattle.numbers.specs.Result.{Check, check, firstFailing}
+use Rattle.utilities.specs.Lists.{every}
+use Rattle.base.specs.Form.{floatType, intType}
+use Rattle.base.specs.Sheet.{Fields, Sheet}
+use Rattle.base.specs.Bounds.{lowersPresent, wholeLowersPresent, lowersPositive, lowersNonNegative}
+use Rattle.base.specs.declared.Component.{Component}
+use Rattle.base.specs.declared.Component.the-variants as C
+use Rattle.shape.specs.Shape.{bothPrivate, sameGroups, columnsAbsent}
+use Rattle.shape.specs.Orders.{operandChecks, unaryChecks, groupsClash, pairChecks, bothOf, moduloChecks, powerChecks, copyChecks, lastChecks}
+use Rattle.shape.specs.Parts.{first, next, operandsCode, only, shapeChecks, boundChecksOf}
+use Rattle.shape.proofs.Refusals.{Numbered, first-append}
+
+-- ---- no check has the number 0
+
+pub operand-numbered : (x : Fields) → Numbered (operandChecks x)
+unfolding every
+operand-numbered x = record { all = refl }
+
+pub unary-numbered : (x : Fields) → Numbered (unaryChecks x)
+unfolding every
+unary-numbered x = record { all = refl }
+
+choice-numbered : (a b : Bool) {xs ys zs : List Check} → Numbered xs → Numbered ys → Numbered zs → Numbered (cond a xs (cond b ys zs))
+choice-numbered true b x y z = x
+choice-numbered false true x y z = y
+choice-numbered false false x y z = z
+
+join-numbered : (xs ys : List Check) → Numbered xs → Numbered ys → Numbered (xs ++ ys)
+unfolding every
+join-numbered [] ys x y = y
+join-numbered (c ∷ cs) ys x y = record { all = go (not (eqb (c .number) 0)) (x .all) (λ h. join-numbered cs ys (record { all = h }) y .all) }
+  where
+    go : (t : Bool) {r q : Bool} → cond t r false ≡ true → (r ≡ true → q ≡ true) → cond t q false ≡ true
+    go true e f = f e
+    go false e f = e
+
+module _ (l r : Sheet) where
+  pub pair-numbered : Numbered (pairChecks l r)
+  unfolding every
+  pair-numbered = record { all = refl }
+
+  pub last-numbered : Numbered (lastChecks l r)
+  unfolding every
+  last-numbered = record { all = refl }
+
+  pub bounds-numbered : (c : Component) → Numbered (boundChecksOf c l r)
+  unfolding every
+  bounds-numbered C.Abs = record { all = refl }
+  bounds-numbered C.Add = record { all = refl }
+  bounds-numbered C.Subtract = record { all = refl }
+  bounds-numbered C.Multiply = record { all = refl }
+  bounds-numbered C.Divide = record { all = refl }
+  bounds-numbered C.Modulo = choice-numbered (bothOf l r intType) (bothOf l r floatType) (record { all = refl }) (record { all = refl }) (record { all = refl })
+  bounds-numbered C.Log = record { all = refl }
+  bounds-numbered C.Power = choice-numbered (bothOf l r intType) (bothOf l r floatType) (record { all = refl }) (record { all = refl }) (record { all = refl })
+  bounds-numbered C.Negative = record { all = refl }
+
+  columns-numbered : Numbered (check 11 (columnsAbsent (l .fields)) ∷ [])
+  unfolding every
+  columns-numbered = record { all = refl }
+
+  pub copy-numbered : (c : Component) → Numbered (copyChecks l r (boundChecksOf c l r))
+  copy-numbered c =
+      let columns = check 11 (columnsAbsent (l .fields)) ∷ [] in
+      let bounds = boundChecksOf c l r in
+      join-numbered (operandChecks (l .fields)) (operandChecks (r .fields) ++ bounds ++ columns) (operand-numbered (l .fields))
+      (join-numbered (operandChecks (r .fields)) (bounds ++ columns) (operand-numbered (r .fields))
+      (join-numbered bounds columns (bounds-numbered c) columns-numbered))
+
+-- ---- the code of a list, by its parts
+
+-- 6 and 7 in front of other checks
+module _ (l r : Sheet) (cs : List Check) where
+  operands-first : operandsCode (l .fields) (r .fields) (firstFailing cs) ≡ firstFailing (operandChecks (l .fields) ++ operandChecks (r .fields) ++ cs)
+  operands-first =
+      sym
+      (first-append (operandChecks (l .fields)) (operandChecks (r .fields) ++ cs) (operand-numbered (l .fields))
+      ∙ ap (next (firstFailing (operandChecks (l .fields)))) (first-append (operandChecks (r .fields)) cs (operand-numbered (r .fields))))
+
+-- x and y are the fields of l and r, under another name
+module _ (l r : Sheet) {x y : Fields} (p : x ≡ l .fields) (q : y ≡ r .fields) where
+  pub pair-is :
+      operandsCode x y (first 8 (bothPrivate x y && not (sameGroups (l .groups) (r .groups))) (firstFailing (shapeChecks (only x) (only y))))
+      ≡ firstFailing (pairChecks l r)
+  unfolding firstFailing
+  pair-is =
+      ap₂ (λ (x y : Fields). operandsCode x y (first 8 (bothPrivate x y && not (sameGroups (l .groups) (r .groups))) (firstFailing (shapeChecks (only x) (only y))))) p q
+      ∙ operands-first l r (check 8 (groupsClash l r) ∷ shapeChecks l r)
+
+  pub last-is : first 8 (bothPrivate x y && not (sameGroups (l .groups) (r .groups))) 0 ≡ firstFailing (lastChecks l r)
+  unfolding firstFailing
+  last-is = ap₂ (λ (x y : Fields). first 8 (bothPrivate x y && not (sameGroups (l .groups) (r .groups))) 0) p q
+
+  pub copy-is :
+      (c : Component)
+      → operandsCode x y (next (firstFailing (boundChecksOf c l r)) (first 11 (columnsAbsent x) 0)) ≡ firstFailing (copyChecks l r (boundChecksOf c l r))
+  unfolding firstFailing
+  copy-is c =
+      let columns = check 11 (columnsAbsent (l .fields)) ∷ [] in
+      let bounds = boundChecksOf c l r in
+      ap₂ (λ (x y : Fields). operandsCode x y (next (firstFailing bounds) (first 11 (columnsAbsent x) 0))) p q
+      ∙ ap (operandsCode (l .fields) (r .fields)) (sym (first-append bounds columns (bounds-numbered l r c)))
+      ∙ operands-first l r (bounds ++ columns)
+
+-- ---- Modulo and Power, by the types
+
+-- the test that was made of one name of the right type is one of the other
+pub types-are :
+    (a kind : ℕ) {b d : ℕ} {v t : Bool} → b ≡ d → v ≡ (eqb a kind && eqb b kind) → v ≡ t → (eqb a kind && eqb d kind) ≡ t
+types-are a kind e f g = sym (ap (λ (k : ℕ). eqb a kind && eqb k kind) e) ∙ sym f ∙ g
+
+module _ (l r : Sheet) where
+  pub modulo-int :
+      bothOf l r intType ≡ true → firstFailing (moduloChecks l r) ≡ first 15 (not (wholeLowersPresent (r .nature))) (first 16 (not (lowersPositive (r .nature))) 0)
+  unfolding firstFailing
+  modulo-int e = rw e
+
+  pub modulo-float :
+      bothOf l r intType ≡ false → bothOf l r floatType ≡ true
+      → firstFailing (moduloChecks l r) ≡ first 15 (not (lowersPresent (r .nature))) (first 16 (not (lowersPositive (r .nature))) 0)
+  unfolding firstFailing
+  modulo-float e f = rw (e, f)
+
+  pub modulo-other : bothOf l r intType ≡ false → bothOf l r floatType ≡ false → firstFailing (moduloChecks l r) ≡ 14
+  unfolding firstFailing
+  modulo-other e f = rw (e, f)
+
+  pub power-int :
+      bothOf l r intType ≡ true → firstFailing (powerChecks l r) ≡ first 15 (not (wholeLowersPresent (r .nature))) (first 16 (not (lowersNonNegative (r .nature))) 0)
+  unfolding firstFailing
+  power-int e = rw e
+
+  pub power-other : bothOf l r intType ≡ false → firstFailing (powerChecks l r) ≡ first 14 (not (bothOf l r floatType)) 0
+  unfolding firstFailing
+  power-other e = rw e (go (bothOf l r floatType))
+    where
+      go : (t : Bool) → firstFailing (cond t [] (check 14 true ∷ [])) ≡ first 14 (not t) 0
+      go true = refl
+      go false = refl

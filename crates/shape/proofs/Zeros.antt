@@ -1,0 +1,190 @@
+-- When Divide adds nullity: a range by its entries, float categories by their values, in whichever list they stand. Assumes nothing.
+use mathlib.Core.Path.{_≡_, refl, sym, ap, ap₂, subst, _∙_}
+use mathlib.Core.Bool.{Bool, true, false, cond, not, _&&_, _||_, and-false}
+use mathlib.Core.List.{List, [], _∷_}
+use Prim.Native.Nat.{ℕ, zero, suc, _+_, _-_, _≤_, _<_}
+use native.Mathlib.Omega.{arith}
+use lib.Dec.{T, eqb, leb, ltb}
+use borrow.Author.Tests.{ltb-true, eqb-false, ne-eqb, not-false}
+use Rattle.utilities.specs.Lists.{listFrom, every, any}
+use Rattle.base.specs.Form.{Form, natureAt, byteAt, isRangeNature, groupCount, listCount, categoryCount}
+use Rattle.base.specs.Sheet.{Nature, absent, wholeRange, wholeLists, boolLists}
+use Rattle.base.specs.Decode.{asWhole, asFloat, asBits, listNumber, categoryAt, listAt, prepended, entries, lists, natureIn}
+use Rattle.base.specs.Bounds.{everyEntry}
+use Rattle.base.specs.Checks.{holdsFrom, bytesPermitted, valuesPermitted, groupsPermitted, numberPermitted, valuePermitted, countsPermitted, rangePermitted, listsPermitted, naturePermitted, fieldsFail}
+use Rattle.base.specs.declared.Component.{Component}
+use Rattle.base.specs.declared.Component.the-variants as C
+use Rattle.base.proofs.Natures.{nature-float-range, nature-float-lists}
+use Rattle.base.proofs.Holding.{every-from}
+use Rattle.shape.specs.declared.bounds.Ask.the-variants as A
+use Rattle.shape.specs.Fields.{spansZero, nanOrZero, mayMeetZero, addsNullity}
+use Rattle.shape.specs.Asked.{wholeAsked, floatAsked, valueApart, isDivide}
+
+-- ---- tests, number by number
+
+pub any-not : {X : Type 0} (p : X → Bool) (xs : List X) → any p xs ≡ not (every (λ x. not (p x)) xs)
+unfolding any every
+any-not p [] = refl
+any-not p (x ∷ xs) = go (p x) (any p xs) (every (λ x. not (p x)) xs) (any-not p xs)
+  where
+    go : (t a b : Bool) → a ≡ not b → cond t true a ≡ not (cond (not t) b false)
+    go true a b e = refl
+    go false a b e = e
+
+and-left : (a b : Bool) → (a && b) ≡ true → a ≡ true
+and-left true b e = refl
+and-left false b e = absurd (subst T (sym e) tt)
+
+and-right : (a b : Bool) → (a && b) ≡ true → b ≡ true
+and-right true b e = e
+and-right false b e = absurd (subst T (sym e) tt)
+
+holds-same : {p q : ℕ → Bool} → ((k : ℕ) → p k ≡ q k) → (n i : ℕ) → holdsFrom n i p ≡ holdsFrom n i q
+unfolding holdsFrom
+holds-same h zero i = refl
+holds-same h (suc n) i = ap₂ _&&_ (h i) (holds-same h n (i + 1))
+
+holds-both : (p q : ℕ → Bool) (n i : ℕ) → holdsFrom n i (λ k. p k && q k) ≡ (holdsFrom n i p && holdsFrom n i q)
+unfolding holdsFrom
+holds-both p q zero i = refl
+holds-both p q (suc n) i = go (p i) (q i) (holdsFrom n (i + 1) p) (holdsFrom n (i + 1) q) (holds-both p q n (i + 1))
+  where
+    go : (a b c d : Bool) {r : Bool} → r ≡ (c && d) → (a && b && r) ≡ (a && c && (b && d))
+    go true true c d e = e
+    go true false c d e = sym (and-false c)
+    go false b c d e = refl
+
+holds-always : (n i : ℕ) → holdsFrom n i (λ k. true) ≡ true
+unfolding holdsFrom
+holds-always zero i = refl
+holds-always (suc n) i = holds-always n (i + 1)
+
+-- of the n numbers from a on one is m
+fails-at : (n a m : ℕ) → a ≤ m → m < a + n → holdsFrom n a (λ j. cond (eqb m j) false true) ≡ false
+unfolding holdsFrom
+fails-at zero a m h k = absurd (omega arith)
+fails-at (suc n) a m h k = go (eqb m a) refl (λ d. fails-at n (a + 1) m (omega arith) (omega arith))
+  where
+    go : (t : Bool) {r : Bool} → eqb m a ≡ t → ((m ≡ a → ⊥) → r ≡ false) → (cond t false true && r) ≡ false
+    go true e f = refl
+    go false e f = f (eqb-false m a e)
+
+one-of : (n a m : ℕ) (u : Bool) → a ≤ m → m < a + n → holdsFrom n a (λ j. cond (eqb m j) u true) ≡ u
+one-of n a m true h k = holds-same (λ j. go (eqb m j)) n a ∙ holds-always n a
+  where
+    go : (t : Bool) → cond t true true ≡ true
+    go true = refl
+    go false = refl
+one-of n a m false h k = fails-at n a m h k
+
+-- ---- the values of all lists
+
+module _ (F : Form) (s : List ℕ) (g t n : ℕ) (p : ℕ → Bool) where
+  -- value i is in another list than j, or passes
+  abbrev elsewhere : ℕ → ℕ → Bool
+  elsewhere j i = cond (eqb (listNumber F s g i) j) (p (categoryAt F s g t i)) true
+
+  list-from : (j k i : ℕ) → every p (listAt F s asBits g t j k i) ≡ holdsFrom k i (elsewhere j)
+  unfolding every listAt holdsFrom
+  list-from j zero i = refl
+  list-from j (suc k) i =
+      go (eqb (listNumber F s g i) j) (categoryAt F s g t i) (listAt F s asBits g t j k (i + 1)) (p (categoryAt F s g t i)) refl (list-from j k (i + 1))
+    where
+      go : (b : Bool) (v : ℕ) (vs : List ℕ) (u : Bool) {r : Bool} → p v ≡ u → every p vs ≡ r → every p (prepended b v vs) ≡ (cond b (p v) true && r)
+      go true v vs true h e = rw h e
+      go true v vs false h e = rw h
+      go false v vs u h e = e
+
+  all-lists : (k i : ℕ) → holdsFrom k i (λ i. ltb (listNumber F s g i) n) ≡ true
+      → holdsFrom n 0 (λ j. holdsFrom k i (elsewhere j)) ≡ holdsFrom k i (λ i. p (categoryAt F s g t i))
+  unfolding holdsFrom
+  all-lists zero i h = holds-always n 0
+  all-lists (suc k) i h =
+      let here = ltb (listNumber F s g i) n in
+      let later = holdsFrom k (i + 1) (λ i. ltb (listNumber F s g i) n) in
+      let below : listNumber F s g i < n = ltb-true (listNumber F s g i) n (and-left here later h) in
+      holds-both (λ j. elsewhere j i) (λ j. holdsFrom k (i + 1) (elsewhere j)) n 0
+      ∙ ap₂ _&&_ (one-of n 0 (listNumber F s g i) (p (categoryAt F s g t i)) (omega arith) (omega arith)) (all-lists k (i + 1) (and-right here later h))
+
+  pub every-list : holdsFrom t 0 (λ i. ltb (listNumber F s g i) n) ≡ true
+      → every (λ l. every p l) (listFrom n 0 (λ j. listAt F s asBits g t j t 0)) ≡ holdsFrom t 0 (λ i. p (categoryAt F s g t i))
+  every-list h =
+      every-from (λ l. every p l) (λ j. listAt F s asBits g t j t 0) n 0
+      ∙ holds-same (λ j. list-from j t 0) n 0
+      ∙ all-lists t 0 h
+
+none-of : (ls : List (List ℕ)) → every (λ l. not (any nanOrZero l)) ls ≡ every (λ l. every (λ v. not (nanOrZero v)) l) ls
+unfolding every
+none-of [] = refl
+none-of (l ∷ ls) =
+    ap₂ (λ (a b : Bool). cond a b false) (ap not (any-not nanOrZero l) ∙ twice (every (λ v. not (nanOrZero v)) l)) (none-of ls)
+  where
+    twice : (b : Bool) → not (not b) ≡ b
+    twice true = refl
+    twice false = refl
+
+-- ---- by the nature's byte
+
+module _ (F : Form) (s : List ℕ) where
+  permitted-lists : byteAt F natureAt s ≡ 5 → naturePermitted F s ≡ listsPermitted F s
+  unfolding naturePermitted
+  permitted-lists e =
+      ap (λ (k : ℕ). cond (eqb k 0) (countsPermitted F s) (cond (isRangeNature k) (rangePermitted F s) (listsPermitted F s))) e
+
+  -- check 4 keeps the list numbers below n
+  numbers-below :
+      fieldsFail F s ≡ false → byteAt F natureAt s ≡ 5
+      → holdsFrom (categoryCount F s) 0 (λ i. ltb (listNumber F s (groupCount F s) i) (listCount F s)) ≡ true
+  unfolding fieldsFail listsPermitted
+  numbers-below h e =
+      let t = categoryCount F s in
+      let others = bytesPermitted F s && valuesPermitted F s && groupsPermitted F s in
+      let below : ℕ → Bool = λ i. ltb (listNumber F s (groupCount F s) i) (listCount F s) in
+      let rising : ℕ → Bool = λ i. eqb i 0 || leb (listNumber F s (groupCount F s) (i - 1)) (listNumber F s (groupCount F s) i) in
+      let nature = and-right others (naturePermitted F s) (not-false (others && naturePermitted F s) h) in
+      let number =
+      and-left (holdsFrom t 0 (numberPermitted F s)) (holdsFrom t 0 (valuePermitted F s))
+      (sym (holds-both (numberPermitted F s) (valuePermitted F s) t 0) ∙ sym (permitted-lists e) ∙ nature) in
+      and-left (holdsFrom t 0 below) (holdsFrom t 0 rising) (sym (holds-both below rising t 0) ∙ number)
+
+  pub lists-meet-zero : fieldsFail F s ≡ false → byteAt F natureAt s ≡ 5 → mayMeetZero (natureIn F s) ≡ not (holdsFrom (categoryCount F s) 0 (valueApart F s))
+  unfolding mayMeetZero lists
+  lists-meet-zero h e =
+      let t = categoryCount F s in
+      ap mayMeetZero (nature-float-lists F s e)
+      ∙ any-not (λ l. any nanOrZero l) (lists F s asBits)
+      ∙ ap not (none-of (lists F s asBits) ∙ every-list F s (groupCount F s) t (listCount F s) (λ v. not (nanOrZero v)) (numbers-below h e))
+
+  pub range-meets-zero : byteAt F natureAt s ≡ 2 → mayMeetZero (natureIn F s) ≡ not (everyEntry (wholeAsked A.Apart) (floatAsked A.Apart) (natureIn F s))
+  unfolding mayMeetZero everyEntry
+  range-meets-zero e =
+      let k = nature-float-range F s e in
+      ap mayMeetZero k
+      ∙ any-not (λ r. spansZero (r .lower) (r .upper)) (entries F s asFloat)
+      ∙ sym (ap (λ (k : Nature). not (everyEntry (wholeAsked A.Apart) (floatAsked A.Apart) k)) k)
+
+  pub else-meets-zero : (byteAt F natureAt s ≡ 2 → ⊥) → (byteAt F natureAt s ≡ 5 → ⊥)
+      → mayMeetZero (natureIn F s) ≡ not (eqb (byteAt F natureAt s) 1 || eqb (byteAt F natureAt s) 3 || eqb (byteAt F natureAt s) 4)
+  unfolding natureIn mayMeetZero
+  else-meets-zero x y =
+      let k = byteAt F natureAt s in
+      rw (ne-eqb k 2 x, ne-eqb k 5 y) (go (eqb k 1) (eqb k 3) (eqb k 4))
+    where
+      go : (a b c : Bool)
+          → mayMeetZero (cond a (wholeRange (entries F s asWhole)) (cond b (wholeLists (lists F s asWhole)) (cond c (boolLists (lists F s asBits)) absent))) ≡ not (a || b || c)
+      go true b c = refl
+      go false true c = refl
+      go false false true = refl
+      go false false false = refl
+
+pub adds-is : (c : Component) (k : Nature) → addsNullity c k ≡ cond (isDivide c) (mayMeetZero k) false
+unfolding addsNullity
+adds-is C.Abs k = refl
+adds-is C.Add k = refl
+adds-is C.Subtract k = refl
+adds-is C.Multiply k = refl
+adds-is C.Divide k = refl
+adds-is C.Modulo k = refl
+adds-is C.Log k = refl
+adds-is C.Power k = refl
+adds-is C.Negative k = refl

@@ -1,0 +1,69 @@
+-- `shape::bounds::every_entry` meets its contract. Assumes nothing.
+use mathlib.Core.Path.{sym, ap, _∙_}
+use mathlib.Core.Bool.{true, false}
+use Prim.Native.Nat.{ℕ}
+use native.Mathlib.Omega.{arith}
+use denote.Ref.{now}
+use Rattle.base.specs.Form.{narrow, isRangeNature}
+use Rattle.base.specs.Bounds.{everyEntry}
+use Rattle.base.specs.Checks.{holdsFrom}
+use Rattle.base.proofs.Passed.{passed, sized, long-enough, range-fits}
+use Rattle.base.proofs.Natures.{nature-whole-range, nature-float-range}
+use Rattle.shape.specs.Asked.{wholeAsked, floatAsked, entryAsked}
+use Rattle.shape.proofs.Asks.{every-whole, every-float, no-range-asked}
+use Rattle.shape.proofs.bounds.every_entry.Statement.{statement}
+use Rattle.shape.proofs.bounds.every_entry.Tie as tie
+
+sizes-at-requires : tie.Need-sizes-at-requires
+sizes-at-requires c κs = long-enough (passed narrow (now (c .before .args .s)) (c .before .pre))
+
+shared-slice-read-nature : tie.Need-shared-slice-read-nature
+shared-slice-read-nature c =
+    let b = c .before .before .before in
+    let l = long-enough (passed narrow (now (b .args .s)) (b .pre)) in
+    omega arith
+
+entries-asked-requires : tie.Need-entries-asked-requires
+entries-asked-requires c κs =
+    let b = c .before .before .before .before in
+    range-fits (sized narrow (now (b .args .s)) (b .pre) (c .before .before .sizes-at .ensures)) (ap isRangeNature (c .if1 .taken))
+
+returns : tie.Need-returns
+returns c =
+    let z = c .before .before .before in
+    let s = now (z .before .before .args .s) in
+    let ask = z .before .before .args .ask in
+    c .entries-asked .ensures
+    ∙ ap (λ (n : ℕ). holdsFrom n 0 (entryAsked narrow ask false s)) (z .sizes-at .ensures .lists)
+    ∙ sym (ap (everyEntry (wholeAsked ask) (floatAsked ask)) (nature-whole-range narrow s (c .before .if1 .taken)) ∙ every-whole narrow s ask)
+
+entries-asked-requires-2 : tie.Need-entries-asked-requires-2
+entries-asked-requires-2 c κs =
+    let b = c .before .before .before .before .before in
+    range-fits (sized narrow (now (b .args .s)) (b .pre) (c .before .before .before .sizes-at .ensures)) (ap isRangeNature (c .if2 .taken))
+
+returns-2 : tie.Need-returns-2
+returns-2 c =
+    let z = c .before .before .before .before in
+    let s = now (z .before .before .args .s) in
+    let ask = z .before .before .args .ask in
+    c .entries-asked2 .ensures
+    ∙ ap (λ (n : ℕ). holdsFrom n 0 (entryAsked narrow ask true s)) (z .sizes-at .ensures .lists)
+    ∙ sym (ap (everyEntry (wholeAsked ask) (floatAsked ask)) (nature-float-range narrow s (c .before .if2 .taken)) ∙ every-float narrow s ask)
+
+returns-3 : tie.Need-returns-3
+returns-3 c =
+    let a = c .before .before .before .before .before .args in
+    sym (no-range-asked narrow (now (a .s)) (a .ask) (c .before .if1 .left) (c .if2 .left))
+
+pub every-entry-spec : {M : Type 1} → statement M
+every-entry-spec =
+    tie.close
+    (tie.spec
+    sizes-at-requires
+    shared-slice-read-nature
+    entries-asked-requires
+    returns
+    entries-asked-requires-2
+    returns-2
+    returns-3)

@@ -1,0 +1,12 @@
+-- `shape::codes::operand_code` meets its contract. Assumes nothing.
+use borrow.Author.Needs.{needs}
+use Rattle.numbers.specs.Result.{firstFailing}
+use Rattle.shape.proofs.codes.operand_code.Statement.{statement}
+use Rattle.shape.proofs.codes.operand_code.Tie as tie
+
+returns : tie.Need-returns
+unfolding firstFailing
+returns c = cc
+
+pub operand-code-spec : {M : Type 1} → statement M
+operand-code-spec = tie.close (tie.spec (λ c κs. search needs) (λ c κs. search needs) (λ c κs. search needs) (λ c κs. search needs) returns)

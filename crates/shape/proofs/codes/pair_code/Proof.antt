@@ -1,0 +1,30 @@
+-- `shape::codes::pair_code` meets its contract: part by part. Assumes nothing.
+use mathlib.Core.Path.{ap, ap₂, _∙_}
+use denote.Ref.{now}
+use borrow.Author.Needs.{needs}
+use Rattle.base.specs.Form.{narrow}
+use Rattle.base.specs.Decode.{decode}
+use Rattle.base.specs.Code.{headFields}
+use Rattle.shape.specs.Parts.{first, operandsCode}
+use Rattle.shape.proofs.Orders.{pair-is}
+use Rattle.shape.proofs.codes.pair_code.Statement.{statement}
+use Rattle.shape.proofs.codes.pair_code.Tie as tie
+
+returns : tie.Need-returns
+unfolding decode
+returns c =
+    let z = c .before .before .before .before .before .before in
+    let rest = c .before .first .ensures ∙ ap₂ (first 8) (c .before .before .before .groups-clash .ensures) (c .before .before .shape-code .ensures) in
+    c .operands-code .ensures
+    ∙ ap (operandsCode (headFields (z .args .l)) (headFields (z .args .r))) rest
+    ∙ pair-is (decode narrow (now (z .args .left))) (decode narrow (now (z .args .right))) (z .pre .0 .head) (z .pre .1 .head)
+
+pub pair-code-spec : {M : Type 1} → statement M
+pair-code-spec =
+    tie.close
+    (tie.spec
+    (λ c κs. (c .before .before .pre .0 .passed, c .before .before .pre .1 .passed))
+    (λ c κs. search needs)
+    (λ c κs. search needs)
+    (λ c κs. search needs)
+    returns)

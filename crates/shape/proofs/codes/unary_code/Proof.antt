@@ -1,0 +1,12 @@
+-- `shape::codes::unary_code` meets its contract. Assumes nothing.
+use borrow.Author.Needs.{needs}
+use Rattle.numbers.specs.Result.{firstFailing}
+use Rattle.shape.proofs.codes.unary_code.Statement.{statement}
+use Rattle.shape.proofs.codes.unary_code.Tie as tie
+
+returns : tie.Need-returns
+unfolding firstFailing
+returns c = cc
+
+pub unary-code-spec : {M : Type 1} → statement M
+unary-code-spec = tie.close (tie.spec (λ c κs. search needs) (λ c κs. search needs) (λ c κs. search needs) (λ c κs. search needs) returns)

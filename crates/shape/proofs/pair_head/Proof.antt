@@ -1,0 +1,12 @@
+-- `shape::pair_head` meets its contract. Assumes nothing.
+use borrow.Author.Needs.{needs}
+use Rattle.shape.specs.Fields.{pairFields}
+use Rattle.shape.proofs.pair_head.Statement.{statement}
+use Rattle.shape.proofs.pair_head.Tie as tie
+
+returns : tie.Need-returns
+unfolding pairFields
+returns c = cc
+
+pub pair-head-spec : {M : Type 1} → statement M
+pair-head-spec = tie.close (tie.spec (λ c κs. search needs) (λ c κs. search needs) (λ c κs. search needs) (λ c κs. search needs) returns)

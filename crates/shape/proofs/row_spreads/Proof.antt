@@ -1,0 +1,10 @@
+-- `shape::row_spreads` meets its contract. Assumes nothing.
+use borrow.Author.Needs.{needs}
+use Rattle.shape.proofs.row_spreads.Statement.{statement}
+use Rattle.shape.proofs.row_spreads.Tie as tie
+
+returns : tie.Need-returns
+returns c = cc
+
+pub row-spreads-spec : {M : Type 1} → statement M
+row-spreads-spec = tie.close (tie.spec (λ c κs. search needs) returns)

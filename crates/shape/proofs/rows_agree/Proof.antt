@@ -1,0 +1,10 @@
+-- `shape::rows_agree` meets its contract. Assumes nothing.
+use borrow.Author.Needs.{needs}
+use Rattle.shape.proofs.rows_agree.Statement.{statement}
+use Rattle.shape.proofs.rows_agree.Tie as tie
+
+returns : tie.Need-returns
+returns c = cc
+
+pub rows-agree-spec : {M : Type 1} → statement M
+rows-agree-spec = tie.close (tie.spec (λ c κs. search needs) (λ c κs. search needs) (λ c κs. search needs) (λ c κs. search needs) returns)

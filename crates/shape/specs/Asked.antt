@@ -1,0 +1,69 @@
+-- What one entry of a range, or one category, is asked.
+use mathlib.Core.Bool.{Bool, true, false, cond, not}
+use mathlib.Core.List.{List}
+use mathlib.Core.Option.{Option, none, some}
+use Prim.Native.Nat.{ℕ}
+use lib.IntN.{ℤ}
+use lib.Ieee.{Float}
+use Rattle.numbers.specs.Kind.{Kind, Span, whole, float}
+use Rattle.base.specs.Form.{Form, groupCount, listCount, categoryCount}
+use Rattle.base.specs.Decode.{asWhole, asFloat, spanAt, categoryAt}
+use Rattle.base.specs.Bounds.{isPresent, positive, nonNegative, suitsAsBase}
+use Rattle.base.specs.declared.Component.{Component}
+use Rattle.base.specs.declared.Component.the-variants as C
+use Rattle.shape.specs.declared.bounds.Ask.{Ask}
+use Rattle.shape.specs.declared.bounds.Ask.the-variants as A
+use Rattle.shape.specs.Fields.{spansZero, nanOrZero}
+
+module _ {E : Type 0} (K : Kind E) (limit : E) where
+  -- an end that is present and above a limit, or below it
+  abbrev pub above : Option E → Bool
+  above none = false
+  above (some a) = K .lt limit a
+
+  abbrev pub under : Option E → Bool
+  under none = false
+  under (some a) = K .lt a limit
+
+abbrev pub span : {E : Type 0} → Option E → Option E → Span E
+span a c = record { lower = a; upper = c }
+
+-- an entry of a whole range, and of a float range
+abbrev pub wholeAsked : Ask → Span ℤ → Bool
+wholeAsked A.LowerPresent = λ r. isPresent (r .lower)
+wholeAsked A.UpperPresent = λ r. isPresent (r .upper)
+wholeAsked A.LowerPositive = λ r. positive whole (r .lower)
+wholeAsked A.LowerNonNegative = λ r. nonNegative whole (r .lower)
+wholeAsked A.Base = suitsAsBase whole
+wholeAsked A.Apart = λ r. true
+
+abbrev pub floatAsked : Ask → Span Float → Bool
+floatAsked A.LowerPresent = λ r. isPresent (r .lower)
+floatAsked A.UpperPresent = λ r. isPresent (r .upper)
+floatAsked A.LowerPositive = λ r. positive float (r .lower)
+floatAsked A.LowerNonNegative = λ r. nonNegative float (r .lower)
+floatAsked A.Base = suitsAsBase float
+floatAsked A.Apart = λ r. not (spansZero (r .lower) (r .upper))
+
+module _ (F : Form) where
+  -- entry i, of a float range or of a whole one
+  abbrev pub entryAsked : Ask → Bool → List ℕ → ℕ → Bool
+  entryAsked ask floats s i =
+      let g = groupCount F s in
+      let n = listCount F s in
+      cond floats (floatAsked ask (spanAt F s asFloat g n i)) (wholeAsked ask (spanAt F s asWhole g n i))
+
+  -- float category i is neither NaN nor a zero
+  abbrev pub valueApart : List ℕ → ℕ → Bool
+  valueApart s i = not (nanOrZero (categoryAt F s (groupCount F s) (categoryCount F s) i))
+
+abbrev pub isDivide : Component → Bool
+isDivide C.Abs = false
+isDivide C.Add = false
+isDivide C.Subtract = false
+isDivide C.Multiply = false
+isDivide C.Divide = true
+isDivide C.Modulo = false
+isDivide C.Log = false
+isDivide C.Power = false
+isDivide C.Negative = false

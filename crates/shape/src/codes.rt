@@ -1,0 +1,210 @@
+// Checks 6 to 16: 0, or the number of the first that fails. Each test is computed whole: operands that pass have every test made anyway.
+use crate::bounds;
+use crate::groups;
+use base::Component;
+use base::Head;
+use base::OptionU64;
+use base::form;
+ghost use mathlib.Core.Path.{_≡_};
+ghost use mathlib.Core.Bool.{false, not, _&&_};
+ghost use lib.Dec.{eqb};
+ghost use Rattle.numbers.specs.Result.{firstFailing};
+ghost use Rattle.base.specs.Form.{narrow};
+ghost use Rattle.base.specs.Decode.{groupsIn, decode};
+ghost use Rattle.base.specs.Checks.{sizesFail};
+ghost use Rattle.base.specs.Code.{bitsIn, headFields};
+ghost use Rattle.shape.specs.Shape.{bothPrivate, sameGroups};
+ghost use Rattle.shape.specs.Orders.{aggregated, notOne, sampled, operandChecks, unaryChecks, pairChecks, moduloChecks, logChecks, powerChecks, copyChecks, lastChecks};
+ghost use Rattle.shape.specs.Parts.{Operand, first, next, operandsCode, only, shapeChecks, dataChecks, boundChecksOf};
+
+// The number of a check that fails, else what the later ones say.
+fn first(number: u32, fails: bool, rest: u32) -> u32
+    ensures { λ r. ⌜ r ≡ first number fails rest ⌝ }
+{
+    if fails { number } else { rest }
+}
+
+// What the later checks say, where the earlier ones refuse nothing.
+fn after(code: u32, rest: u32) -> u32
+    ensures { λ r. ⌜ r ≡ next code rest ⌝ }
+{
+    if code == 0 { rest } else { code }
+}
+
+// ---- 6 and 7
+
+fn aggregated(h: Head) -> bool
+    ensures { λ r. ⌜ r ≡ aggregated (headFields h) ⌝ }
+{
+    !h.releasable & (h.aggregator != 0)
+}
+
+// The sample proportion is compared as a float.
+fn not_one(sample: OptionU64) -> bool
+    ensures { λ r. ⌜ r ≡ notOne (bitsIn sample) ⌝ }
+{
+    let OptionU64::Is(bits) = sample else {
+        return false;
+    };
+    bytes::float_of(bits) != 1.0
+}
+
+fn sampled(h: Head) -> bool
+    ensures { λ r. ⌜ r ≡ sampled (headFields h) ⌝ }
+{
+    let sample = h.sample;
+    !h.releasable & not_one(sample)
+}
+
+fn operand_code(h: Head) -> u32
+    ensures { λ r. ⌜ r ≡ firstFailing (operandChecks (headFields h)) ⌝ }
+{
+    first(6, aggregated(h), first(7, sampled(h), 0))
+}
+
+// 6 and 7 of both operands, left's before right's, then the rest.
+fn operands_code(l: Head, r: Head, rest: u32) -> u32
+    ensures { λ o. ⌜ o ≡ operandsCode (headFields l) (headFields r) rest ⌝ }
+{
+    after(operand_code(l), after(operand_code(r), rest))
+}
+
+// Abs and Negative.
+pub fn unary_code(h: Head) -> u32
+    ensures { λ r. ⌜ r ≡ firstFailing (unaryChecks (headFields h)) ⌝ }
+{
+    first(6, aggregated(h), first(11, crate::columns_absent(h), 0))
+}
+
+// ---- 8 to 14
+
+fn both_private(l: Head, r: Head) -> bool
+    ensures { λ o. ⌜ o ≡ bothPrivate (headFields l) (headFields r) ⌝ }
+{
+    !l.releasable & !r.releasable
+}
+
+// Groups are compared only where neither operand is releasable.
+fn groups_clash(left: &[u8], right: &[u8], l: Head, r: Head) -> bool
+    requires { ⌜ (sizesFail narrow (now left) ≡ false) × (sizesFail narrow (now right) ≡ false) ⌝ }
+    ensures { λ o. ⌜ o ≡ (bothPrivate (headFields l) (headFields r) && not (sameGroups (groupsIn narrow (now (left .entry))) (groupsIn narrow (now (right .entry))))) ⌝ }
+{
+    if both_private(l, r) {
+        return !groups::same_groups(left, right);
+    }
+    false
+}
+
+// 9 to 14.
+fn shape_code(l: Head, r: Head) -> u32
+    ensures { λ o. ⌜ o ≡ firstFailing (shapeChecks (only (headFields l)) (only (headFields r))) ⌝ }
+{
+    let private = both_private(l, r);
+    let datasets = private & !crate::same_dataset(l, r);
+    let stabilities = private & (l.c_stability != r.c_stability);
+    let absent = crate::columns_absent(l) | crate::columns_absent(r);
+    let columns = crate::columns_clash(l, r);
+    let rows = crate::rows_clash(l, r);
+    let types = l.data_type != r.data_type;
+    let rest = first(13, rows, first(14, types, 0));
+    let sizes = first(11, absent, first(12, columns, rest));
+    first(9, datasets, first(10, stabilities, sizes))
+}
+
+// Add, Subtract, Multiply and Divide.
+pub fn pair_code(left: &[u8], right: &[u8], l: Head, r: Head) -> u32
+    requires { ⌜ Operand narrow (now left) l × Operand narrow (now right) r ⌝ }
+    ensures { λ o. ⌜ o ≡ firstFailing (pairChecks (decode narrow (now (left .entry))) (decode narrow (now (right .entry)))) ⌝ }
+{
+    let clash = groups_clash(left, right, l, r);
+    operands_code(l, r, first(8, clash, shape_code(l, r)))
+}
+
+// ---- 14 to 16
+
+fn both_of(l: Head, r: Head, kind: u8) -> bool
+    ensures { λ o. ⌜ o ≡ (eqb (headFields l .dataType) kind && eqb (headFields r .dataType) kind) ⌝ }
+{
+    (l.data_type == kind) & (r.data_type == kind)
+}
+
+fn modulo_code(right: &[u8], l: Head, r: Head) -> u32
+    requires { ⌜ Operand narrow (now right) r ⌝ }
+    ensures { λ o. ⌜ o ≡ firstFailing (moduloChecks (only (headFields l)) (decode narrow (now (right .entry)))) ⌝ }
+{
+    let conditions = first(16, !bounds::lowers_positive(right), 0);
+    if both_of(l, r, form::INT_TYPE) {
+        return first(15, !bounds::whole_lowers_present(right), conditions);
+    }
+    if both_of(l, r, form::FLOAT_TYPE) {
+        return first(15, !bounds::lowers_present(right), conditions);
+    }
+    14
+}
+
+fn power_code(right: &[u8], l: Head, r: Head) -> u32
+    requires { ⌜ Operand narrow (now right) r ⌝ }
+    ensures { λ o. ⌜ o ≡ firstFailing (powerChecks (only (headFields l)) (decode narrow (now (right .entry)))) ⌝ }
+{
+    if both_of(l, r, form::INT_TYPE) {
+        let conditions = first(16, !bounds::lowers_non_negative(right), 0);
+        return first(15, !bounds::whole_lowers_present(right), conditions);
+    }
+    first(14, !both_of(l, r, form::FLOAT_TYPE), 0)
+}
+
+// 15 and 16 of the data.
+fn data_code(left: &[u8], right: &[u8]) -> u32
+    requires { ⌜ (sizesFail narrow (now left) ≡ false) × (sizesFail narrow (now right) ≡ false) ⌝ }
+    ensures { λ o. ⌜ o ≡ firstFailing (dataChecks (decode narrow (now (left .entry))) (decode narrow (now (right .entry)))) ⌝ }
+{
+    let whole = bounds::is_whole_range(left) & bounds::is_whole_range(right);
+    let rest = first(15, whole, first(16, !bounds::lowers_positive(left), 0));
+    first(15, !bounds::lowers_present(left), rest)
+}
+
+// 15 and 16 are done for the base, then for the data.
+fn log_code(left: &[u8], right: &[u8], l: Head) -> u32
+    requires { ⌜ Operand narrow (now left) l × (sizesFail narrow (now right) ≡ false) ⌝ }
+    ensures { λ o. ⌜ o ≡ firstFailing (logChecks (decode narrow (now (left .entry))) (decode narrow (now (right .entry)))) ⌝ }
+{
+    let present = bounds::lowers_present(right) & bounds::uppers_present(right);
+    let suited = first(16, !bounds::all_suit_as_base(right), data_code(left, right));
+    let rest = first(15, !present, suited);
+    first(14, l.data_type != form::FLOAT_TYPE, rest)
+}
+
+fn bound_code(c: Component, left: &[u8], right: &[u8], l: Head, r: Head) -> u32
+    requires { ⌜ Operand narrow (now left) l × Operand narrow (now right) r ⌝ }
+    ensures { λ o. ⌜ o ≡ firstFailing (boundChecksOf c (decode narrow (now (left .entry))) (decode narrow (now (right .entry)))) ⌝ }
+{
+    match c {
+        Component::Abs => 0,
+        Component::Add => 0,
+        Component::Subtract => 0,
+        Component::Multiply => 0,
+        Component::Divide => 0,
+        Component::Modulo => modulo_code(right, l, r),
+        Component::Log => log_code(left, right, l),
+        Component::Power => power_code(right, l, r),
+        Component::Negative => 0,
+    }
+}
+
+// Modulo, Log and Power, before their nature is derived.
+pub fn copy_code(c: Component, left: &[u8], right: &[u8], l: Head, r: Head) -> u32
+    requires { ⌜ Operand narrow (now left) l × Operand narrow (now right) r ⌝ }
+    ensures { λ o. ⌜ o ≡ firstFailing (copyChecks (decode narrow (now (left .entry))) (decode narrow (now (right .entry))) (boundChecksOf c (decode narrow (now (left .entry))) (decode narrow (now (right .entry))))) ⌝ }
+{
+    let bounds = bound_code(c, left, right, l, r);
+    let columns = first(11, crate::columns_absent(l), 0);
+    operands_code(l, r, after(bounds, columns))
+}
+
+// Modulo, Log and Power, after it.
+pub fn last_code(left: &[u8], right: &[u8], l: Head, r: Head) -> u32
+    requires { ⌜ Operand narrow (now left) l × Operand narrow (now right) r ⌝ }
+    ensures { λ o. ⌜ o ≡ firstFailing (lastChecks (decode narrow (now (left .entry))) (decode narrow (now (right .entry)))) ⌝ }
+{
+    first(8, groups_clash(left, right, l, r), 0)
+}

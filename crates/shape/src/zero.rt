@@ -1,0 +1,82 @@
+// Divide's nullity: whether the right sheet may meet 0.
+use crate::bounds::Ask;
+use crate::bounds::{self};
+use base::Component;
+use base::form;
+ghost use mathlib.Core.Path.{_≡_};
+ghost use mathlib.Core.Bool.{false, _||_};
+ghost use lib.Ieee as Ieee;
+ghost use Rattle.numbers.specs.Kind.{zeroFloat};
+ghost use Rattle.base.specs.Form.{narrow};
+ghost use Rattle.base.specs.Decode.{natureIn};
+ghost use Rattle.base.specs.Checks.{holdsFrom, sizesFail, fieldsFail};
+ghost use Rattle.base.specs.Sized.{ListsFit};
+ghost use Rattle.shape.specs.Fields.{mayMeetZero, addsNullity};
+ghost use Rattle.shape.specs.Asked.{valueApart, isDivide};
+
+fn nan_or_zero(x: f64) -> bool
+    ensures { λ r. ⌜ r ≡ (Ieee.isNan x || Ieee.eq x zeroFloat) ⌝ }
+{
+    (x != x) | (x == 0.0)
+}
+
+// None of the t values is NaN or a zero, in whichever list it stands.
+fn values_apart(s: &[u8], g: usize, n: usize, t: usize) -> bool
+    requires { ⌜ ListsFit narrow (now s) g n t ⌝ }
+    ensures { λ r. ⌜ r ≡ holdsFrom t 0 (valueApart narrow (now (s .entry))) ⌝ }
+{
+    let mut i = 0;
+    while i < t {
+        let x = bytes::f64_at(s, form::value_at(g, t, i));
+        if nan_or_zero(x) {
+            return false;
+        }
+        i += 1;
+    }
+    true
+}
+
+pub fn may_meet_zero(s: &[u8]) -> bool
+    requires { ⌜ (sizesFail narrow (now s) ≡ false) × (fieldsFail narrow (now s) ≡ false) ⌝ }
+    ensures { λ r. ⌜ r ≡ mayMeetZero (natureIn narrow (now (s .entry))) ⌝ }
+{
+    let sizes = base::sizes_at(s);
+    let g = sizes.groups;
+    let n = sizes.lists;
+    let t = sizes.categories;
+    let nature = s[form::NATURE_AT];
+    if nature == form::FLOAT_RANGE {
+        return !bounds::every_entry(s, Ask::Apart);
+    }
+    if nature == form::FLOAT_LISTS {
+        return !values_apart(s, g, n, t);
+    }
+    !((nature == form::WHOLE_RANGE) | (nature == form::WHOLE_LISTS) | (nature == form::BOOL_LISTS))
+}
+
+fn is_divide(c: Component) -> bool
+    ensures { λ r. ⌜ r ≡ isDivide c ⌝ }
+{
+    match c {
+        Component::Abs => false,
+        Component::Add => false,
+        Component::Subtract => false,
+        Component::Multiply => false,
+        Component::Divide => true,
+        Component::Modulo => false,
+        Component::Log => false,
+        Component::Power => false,
+        Component::Negative => false,
+    }
+}
+
+// What the component adds to the nullity, s being the right sheet.
+pub fn adds_nullity(c: Component, s: &[u8]) -> bool
+    requires { ⌜ (sizesFail narrow (now s) ≡ false) × (fieldsFail narrow (now s) ≡ false) ⌝ }
+    ensures { λ r. ⌜ r ≡ addsNullity c (natureIn narrow (now (s .entry))) ⌝ }
+{
+    if is_divide(c) {
+        return may_meet_zero(s);
+    }
+    false
+}
