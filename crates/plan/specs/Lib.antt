@@ -5,3 +5,4 @@ pub mod Demand
 pub mod Within
 pub mod Asks
 pub mod Good
+pub mod Held

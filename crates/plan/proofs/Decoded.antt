@@ -1,0 +1,135 @@
+-- Bytes that pass 3 and 4 decode to a sheet that keeps to the limits and whose numbers fit their places. Assumes nothing.
+use mathlib.Core.Path.{_≡_, refl}
+use mathlib.Core.Bool.{Bool, true, false, cond}
+use mathlib.Core.List.{List}
+use mathlib.Core.Option.{Option, none, some, Option·getD}
+use Prim.Native.Nat.{ℕ, zero, suc, _+_, _≤_}
+use native.Mathlib.Omega.{arith}
+use lib.Dec.{eqb}
+use lib.Ieee.{binary64}
+use lib.Ieee.Bits.{ofBits-fits}
+use lib.ListN.{length, getD}
+use mir.Syntax.{w64}
+use mir.Facts.{sfits-toZ}
+use Rattle.bytes.specs.Le.{leAt}
+use Rattle.utilities.proofs.Built.{listFrom-length}
+use Rattle.base.specs.Form.{narrow, natureAt, byteAt, groupCount, listCount, categoryCount, wholeRangeNature, floatRangeNature, wholeListsNature, boolListsNature, floatListsNature}
+use Rattle.base.specs.Sheet.{Nature, absent, wholeRange, floatRange, wholeLists, boolLists, floatLists}
+use Rattle.base.specs.Decode.{asWhole, asFloat, asBits, optionAt, prepended, groupAt, spanAt, listNumber, categoryAt, listAt, entries, lists, natureIn, fieldsIn, groupsIn, decode}
+use Rattle.base.specs.Encode.{entryCount}
+use Rattle.base.proofs.Passed.{Passed, passed}
+use Rattle.base.proofs.Permitted.{permitted, columns-within}
+use Rattle.writer.specs.WellFormed.{Each, Present, Whole, Double, Bits, FieldsFit, GroupFits, SpanFits, ListsFit, NatureFits}
+use Rattle.writer.proofs.Groups.{AllBytes, leAt-below, groups-length}
+use Rattle.plan.specs.Held.{Held}
+use Rattle.plan.proofs.Each.{each-from}
+
+module _ (s : List ℕ) (small : AllBytes s) where
+  read-whole : (at : ℕ) → Whole (asWhole (leAt 8 at s))
+  read-whole at = sfits-toZ {w = w64} (record { fits = leAt-below s small 8 at })
+
+  read-double : (at : ℕ) → Double (asFloat (leAt 8 at s))
+  read-double at = ofBits-fits binary64 (leAt 8 at s)
+
+  read-bits : (at : ℕ) → Bits (asBits (leAt 8 at s))
+  read-bits at = leAt-below s small 8 at
+
+  module _ {X : Type 0} (P : X → Type 0) (read : ℕ → X) (fit : (at : ℕ) → P (read (leAt 8 at s))) where
+    option-fits : (mark at : ℕ) → Present P (optionAt read mark at s)
+    unfolding optionAt
+    option-fits mark at = go (eqb (getD s mark 0) 0)
+      where
+        go : (t : Bool) → Present P (cond t none (some (read (leAt 8 at s))))
+        go true = tt
+        go false = fit at
+
+    entries-fit : Each (SpanFits P) (entries narrow s read)
+    unfolding entries
+    entries-fit =
+        each-from (SpanFits P) (spanAt narrow s read (groupCount narrow s) (listCount narrow s))
+        (λ i. record { lower = option-fits _ _; upper = option-fits _ _ }) (listCount narrow s) 0
+
+    list-fits : (g t j k i : ℕ) → Each P (listAt narrow s read g t j k i)
+    unfolding listAt
+    list-fits g t j zero i = tt
+    list-fits g t j (suc k) i = go (eqb (listNumber narrow s g i) j) (list-fits g t j k (i + 1))
+      where
+        go : (b : Bool) → Each P (listAt narrow s read g t j k (i + 1)) → Each P (prepended b (read (categoryAt narrow s g t i)) (listAt narrow s read g t j k (i + 1)))
+        go true h = (fit _, h)
+        go false h = h
+
+    lists-length : length (lists narrow s read) ≡ listCount narrow s
+    unfolding lists
+    lists-length = listFrom-length (λ j. listAt narrow s read (groupCount narrow s) (categoryCount narrow s) j (categoryCount narrow s) 0) (listCount narrow s) 0
+
+    entries-length : length (entries narrow s read) ≡ listCount narrow s
+    unfolding entries
+    entries-length = listFrom-length (spanAt narrow s read (groupCount narrow s) (listCount narrow s)) (listCount narrow s) 0
+
+    lists-fit : listCount narrow s ≤ 16 → ListsFit narrow P (lists narrow s read)
+    unfolding lists
+    lists-fit h =
+        let n = lists-length in
+        record {
+          numbers = omega arith;
+          values = each-from (Each P) (λ j. listAt narrow s read (groupCount narrow s) (categoryCount narrow s) j (categoryCount narrow s) 0)
+              (λ j. list-fits (groupCount narrow s) (categoryCount narrow s) j (categoryCount narrow s) 0) (listCount narrow s) 0;
+        }
+
+  abbrev Fine : Nature → Type 0
+  Fine k = (entryCount k ≤ 16) × NatureFits narrow k
+
+  nature-fine : listCount narrow s ≤ 16 → Fine (natureIn narrow s)
+  unfolding natureIn
+  nature-fine h =
+      let k = byteAt narrow natureAt s in
+      go (eqb k wholeRangeNature) (eqb k floatRangeNature) (eqb k wholeListsNature) (eqb k boolListsNature) (eqb k floatListsNature)
+    where
+      go : (a b c d e : Bool)
+          → Fine (cond a (wholeRange (entries narrow s asWhole)) (cond b (floatRange (entries narrow s asFloat)) (cond c (wholeLists (lists narrow s asWhole))
+          (cond d (boolLists (lists narrow s asBits)) (cond e (floatLists (lists narrow s asBits)) absent)))))
+      go true b c d e = let n = entries-length Whole asWhole read-whole in (omega arith, entries-fit Whole asWhole read-whole)
+      go false true c d e = let n = entries-length Double asFloat read-double in (omega arith, entries-fit Double asFloat read-double)
+      go false false true d e = let n = lists-length Whole asWhole read-whole in (omega arith, lists-fit Whole asWhole read-whole h)
+      go false false false true e = let n = lists-length Bits asBits read-bits in (omega arith, lists-fit Bits asBits read-bits h)
+      go false false false false true = let n = lists-length Bits asBits read-bits in (omega arith, lists-fit Bits asBits read-bits h)
+      go false false false false false = (omega arith, tt)
+
+  fields-fit : FieldsFit (fieldsIn narrow s)
+  unfolding fieldsIn
+  fields-fit = record {
+    dataType = small _;
+    cStability = leAt-below s small 4 _;
+    aggregator = leAt-below s small 4 _;
+    rows = option-fits Whole asWhole read-whole _ _;
+    columns = option-fits Bits asBits read-bits _ _;
+    dataset = option-fits Whole asWhole read-whole _ _;
+    dimensionality = option-fits Whole asWhole read-whole _ _;
+    sample = option-fits Bits asBits read-bits _ _;
+  }
+
+  groups-fit : Each GroupFits (groupsIn narrow s)
+  unfolding groupsIn
+  groups-fit =
+      each-from GroupFits (groupAt narrow s (groupCount narrow s))
+      (λ i. record { partition = leAt-below s small 4 _; kind = small _; index = read-whole _ }) (groupCount narrow s) 0
+
+  pub decoded-held : Passed narrow s → Held (decode narrow s)
+  unfolding decode
+  decoded-held p =
+      let z = passed narrow s (p .sizes) in
+      let n = nature-fine (z .listsWithin) in
+      let g = groups-length s in
+      record {
+        groupsWithin = omega (arith, z .groupsWithin);
+        entriesWithin = n .0;
+        columnsWithin = columns (fieldsIn narrow s .columns) refl;
+        fields = fields-fit;
+        node = read-whole _;
+        groups = groups-fit;
+        nature = n .1;
+      }
+    where
+      columns : (o : Option ℕ) → fieldsIn narrow s .columns ≡ o → Option·getD o 0 ≤ 16
+      columns none e = omega arith
+      columns (some c) e = columns-within narrow s (permitted narrow s (p .fields)) e .1

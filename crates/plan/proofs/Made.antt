@@ -1,0 +1,278 @@
+-- The nature that a component derives keeps to the limits, and its numbers fit their places; or a number of 01's refuses. Assumes nothing.
+use mathlib.Core.Path.{_≡_, refl}
+use mathlib.Core.Bool.{Bool, true, false, cond}
+use mathlib.Core.List.{List, [], _∷_, map}
+use mathlib.Core.Option.{Option, none, some}
+use Prim.Native.Nat.{ℕ, _^_, _≤_}
+use native.Mathlib.Nat.{mod-lt}
+use native.Mathlib.Omega.{arith}
+use lib.Dec.{eqb, ltb}
+use lib.Ieee.{Float}
+use lib.IntN.{ℤ, pos, negsuc, natAbs, pow}
+use lib.ListN.{length, length-map}
+use lib.Signed.{mag}
+use borrow.Author.Tests.{ltb-true, ltb-false, eqb-false}
+use Rattle.numbers.specs.Result.{Result, ok, refused, andThen}
+use Rattle.numbers.specs.Checked.{inRange}
+use Rattle.numbers.specs.Kind.{Span, whole, float, eqZ}
+use Rattle.utilities.specs.Lists.{firsts, repeated, standardized}
+use Rattle.utilities.specs.Columns.{each, eachPair}
+use Rattle.base.specs.Form.{narrow, intType}
+use Rattle.base.specs.Sheet.{Nature, absent, wholeRange, floatRange, wholeLists, boolLists, floatLists}
+use Rattle.base.specs.Encode.{entryCount, valueCount, total}
+use Rattle.base.specs.declared.Component.{Component}
+use Rattle.base.specs.declared.Component.the-variants as C
+use Rattle.ends.specs.Ends.{endRule}
+use Rattle.ranges.specs.Ranges.{wholeRule, rangePair, rangeAlone}
+use Rattle.categories.specs.Categories.{remainder, modWhole, powerWhole, categoryRule, row, pairs, product, combined, mapped, counted, limited}
+use Rattle.transforms.specs.Natures.{ruled, wholeListsOf, listsPair, listsAlone, wholeRangeWith, floatRangeWith, listsWith, binaryNature, unaryNature}
+use Rattle.writer.specs.WellFormed.{Each, Whole, Double, SpanFits, NatureFits}
+use Rattle.plan.proofs.Columns.{range-columns, alone-columns}
+use Rattle.plan.proofs.Each.{each-append, each-repeated, each-firsts, each-map, repeated-within, each-length, pair-length}
+use Rattle.plan.proofs.Gives.{Gives, gives-more, gives-then, gives-checked, each-gives, pair-gives}
+use Rattle.plan.proofs.Fitted.{fitting-fits, whole-fits, float-fits, rule-fits, whole-rule-fits}
+
+-- ---- a rule on whole categories
+
+whole-natAbs : (b : ℤ) → Whole b → natAbs b ≤ 2 ^ 63
+whole-natAbs (pos n) h = let k = h .sfits in omega arith
+whole-natAbs (negsuc n) h = let k = h .sfits in omega arith
+
+remainder-fits : (a b : ℤ) → Whole b → (natAbs b ≡ 0 → ⊥) → Whole (remainder a b)
+remainder-fits (pos n) b h z =
+    let k = whole-natAbs b h in
+    let m = mod-lt n {m = natAbs b} (omega arith) in
+    record { sfits = omega arith }
+remainder-fits (negsuc n) b h z =
+    let k = whole-natAbs b h in
+    record { sfits = omega arith }
+
+mod-fits : (a b : ℤ) → Whole b → Gives Whole (modWhole a b)
+mod-fits a b h = go (eqb (natAbs b) 0) refl
+  where
+    go : (t : Bool) → eqb (natAbs b) 0 ≡ t → Gives Whole (cond t (refused 24) (ok (remainder a b)))
+    go true e = omega arith
+    go false e = remainder-fits a b h (eqb-false (natAbs b) 0 e)
+
+power-fits : (a b : ℤ) → Gives Whole (powerWhole a b)
+power-fits a (pos n) = go (inRange (pow a n)) refl
+  where
+    go : (t : Bool) → inRange (pow a n) ≡ t → Gives Whole (cond t (ok (pow a n)) (refused 25))
+    go true e = record { sfits = ltb-true (mag (pow a n)) (2 ^ 63) e }
+    go false e = omega arith
+power-fits a (negsuc n) = omega arith
+
+-- what a rule gives of numbers that fit, fits
+abbrev RuleFits : (ℤ → ℤ → Result ℤ) → Type 0
+RuleFits rule = (a b : ℤ) → Whole a → Whole b → Gives Whole (rule a b)
+
+abbrev MaybeFits : Option (ℤ → ℤ → Result ℤ) → Type 0
+MaybeFits none = Unit {0}
+MaybeFits (some rule) = RuleFits rule
+
+category-fits : (c : Component) (type : ℕ) → MaybeFits (categoryRule c type)
+unfolding categoryRule
+category-fits C.Abs type = λ a b p q. fitting-fits _
+category-fits C.Add type = λ a b p q. whole-fits .add a b
+category-fits C.Subtract type = λ a b p q. whole-fits .sub a b
+category-fits C.Multiply type = λ a b p q. whole-fits .mul a b
+category-fits C.Divide type = λ a b p q. whole-fits .div a b
+category-fits C.Modulo type = go (eqb type intType)
+  where
+    go : (t : Bool) → MaybeFits (cond t (some modWhole) none)
+    go true = λ a b p q. mod-fits a b q
+    go false = tt
+category-fits C.Log type = tt
+category-fits C.Power type = go (eqb type intType)
+  where
+    go : (t : Bool) → MaybeFits (cond t (some powerWhole) none)
+    go true = λ a b p q. power-fits a b
+    go false = tt
+category-fits C.Negative type = λ a b p q. whole-fits .neg a p
+
+-- ---- lists
+
+abbrev Wholes : List ℤ → Type 0
+Wholes l = Each Whole l
+
+standard-each : (columns : ℕ) (ls : List (List ℤ)) → Each Wholes ls → Each Wholes (standardized eqZ columns ls)
+unfolding standardized
+standard-each columns ls p = each-repeated Wholes columns (map (firsts eqZ) ls) (each-map Wholes Wholes (firsts eqZ) (λ l q. each-firsts Whole eqZ l q) ls p)
+
+standard-within : (columns k : ℕ) (ls : List (List ℤ)) → columns ≤ k → length ls ≤ k → length (standardized eqZ columns ls) ≤ k
+unfolding standardized
+standard-within columns k ls h l = repeated-within columns k (map (firsts eqZ) ls) h (rw length-map l)
+
+module _ (rule : ℤ → ℤ → Result ℤ) (fit : RuleFits rule) where
+  row-fits : (a : ℤ) (bs : List ℤ) → Whole a → Wholes bs → Gives Wholes (row rule a bs)
+  unfolding row
+  row-fits a [] p q = tt
+  row-fits a (b ∷ bs) p q =
+      gives-then Whole Wholes (rule a b) _ (fit a b p (q .0))
+      (λ c f. gives-then Wholes Wholes (row rule a bs) _ (row-fits a bs p (q .1)) (λ cs g. (f, g)))
+
+  pairs-fit : (us bs : List ℤ) → Wholes us → Wholes bs → Gives Wholes (pairs rule us bs)
+  unfolding pairs
+  pairs-fit [] bs p q = tt
+  pairs-fit (a ∷ us) bs p q =
+      gives-then Wholes Wholes (row rule a bs) _ (row-fits a bs (p .0) q)
+      (λ cs f. gives-then Wholes Wholes (pairs rule us bs) _ (pairs-fit us bs (p .1) q) (λ ds g. each-append Whole cs ds f g))
+
+  product-fits : (us bs : List ℤ) → Wholes us → Wholes bs → Gives Wholes (product rule us bs)
+  unfolding product
+  product-fits us bs p q = gives-then Wholes Wholes (pairs rule us bs) _ (pairs-fit us bs p q) (λ cs f. each-firsts Whole eqZ cs f)
+
+-- ---- natures
+
+pub record Made (limit : ℕ) (k : Nature) : Type 0 where
+  pub entries : entryCount k ≤ narrow .listLimit
+  pub values : valueCount k ≤ limit
+  pub fits : NatureFits narrow k
+
+-- at most as many as a sheet may have
+abbrev Few : {X : Type 0} → (X → Type 0) → List X → Type 0
+Few P xs = (length xs ≤ 16) × Each P xs
+
+module _ (limit : ℕ) where
+  none-made : Made limit absent
+  none-made = record { entries = omega arith; values = omega arith; fits = tt }
+
+  counted-made : (ls : List (List ℤ)) → Few Wholes ls → Gives (λ ms. Made limit (wholeLists ms)) (counted limit ls)
+  unfolding counted
+  counted-made ls f = go (ltb limit (total ls)) refl
+    where
+      go : (t : Bool) → ltb limit (total ls) ≡ t → Gives (λ ms. Made limit (wholeLists ms)) (cond t (refused 26) (ok ls))
+      go true h = omega arith
+      go false h =
+          let n = f .0 in
+          record { entries = n; values = ltb-false limit (total ls) h; fits = record { numbers = omega arith; values = f .1 } }
+
+  limited-made : (g : Result (List (List ℤ))) → Gives (Few Wholes) g → Gives (Made limit) (limited limit g)
+  limited-made g h =
+      gives-then (Few Wholes) (Made limit) g _ h
+      (λ ls f. gives-then (λ ms. Made limit (wholeLists ms)) (Made limit) (counted limit ls) _ (counted-made ls f) (λ ms m. m))
+
+  ruled-made : (o : Option (ℤ → ℤ → Result ℤ)) (rest : (ℤ → ℤ → Result ℤ) → Result Nature) → MaybeFits o
+      → ((rule : ℤ → ℤ → Result ℤ) → RuleFits rule → Gives (Made limit) (rest rule)) → Gives (Made limit) (ruled o rest)
+  ruled-made none rest f h = omega arith
+  ruled-made (some rule) rest f h = h rule f
+
+  module _ (c : Component) (type columns : ℕ) (few : columns ≤ 16) where
+    pair-made : (ls : List (List ℤ)) (r : Nature) → length ls ≤ 16 → Each Wholes ls → Each Wholes (wholeListsOf r)
+        → Gives (Made limit) (listsPair limit c type columns (wholeLists ls) r)
+    unfolding listsPair combined
+    pair-made ls r n p q =
+        let us = standardized eqZ columns ls in
+        let vs = standardized eqZ columns (wholeListsOf r) in
+        gives-checked (Made limit) _ _ refl
+        (ruled-made (categoryRule c type) _ (category-fits c type)
+        (λ rule f.
+        limited-made (eachPair (product rule) us vs)
+        (gives-more (Each Wholes) (Few Wholes) (eachPair (product rule) us vs)
+        (pair-gives Wholes Wholes (product rule) (product-fits rule f) us vs (standard-each columns ls p) (standard-each columns (wholeListsOf r) q))
+        (λ ns e m.
+        let a = pair-length (product rule) us vs e in
+        let b = standard-within columns 16 ls few n in
+        (omega arith, m)))))
+
+    alone-made : (ls : List (List ℤ)) → length ls ≤ 16 → Each Wholes ls → Gives (Made limit) (listsAlone limit c type columns (wholeLists ls))
+    unfolding listsAlone mapped
+    alone-made ls n p =
+        let us = standardized eqZ columns ls in
+        gives-checked (Made limit) _ _ refl
+        (ruled-made (categoryRule c type) _ (category-fits c type)
+        (λ rule f.
+        limited-made (each (each (λ a. rule a a)) us)
+        (gives-more (Each Wholes) (Few Wholes) (each (each (λ a. rule a a)) us)
+        (each-gives Wholes Wholes (each (λ a. rule a a)) (λ l q. each-gives Whole Whole (λ a. rule a a) (λ a w. f a a w w) l q) us (standard-each columns ls p))
+        (λ ns e m.
+        let a = each-length (each (λ a. rule a a)) us e in
+        let b = standard-within columns 16 ls few n in
+        (omega arith, m)))))
+
+    -- bool and float categories have no rule
+    no-bool : (ls : List (List ℕ)) (r : Nature) → Gives (Made limit) (listsPair limit c type columns (boolLists ls) r)
+    unfolding listsPair
+    no-bool ls r = gives-checked (Made limit) _ (refused 22) refl (omega arith)
+
+    no-float : (ls : List (List ℕ)) (r : Nature) → Gives (Made limit) (listsPair limit c type columns (floatLists ls) r)
+    unfolding listsPair
+    no-float ls r = gives-checked (Made limit) _ (refused 22) refl (omega arith)
+
+    module _ {E : Type 0} (P : E → Type 0) (rule : Span E → Span E → Result (Span E))
+        (fit : (x y : Span E) → SpanFits P x → SpanFits P y → Gives (SpanFits P) (rule x y)) where
+      range-few : (xs ys : List (Span E)) → Each (SpanFits P) xs → Each (SpanFits P) ys → Gives (Few (SpanFits P)) (rangePair rule columns xs ys)
+      unfolding rangePair
+      range-few xs ys p q =
+          gives-more (Each (SpanFits P)) (Few (SpanFits P)) (rangePair rule columns xs ys)
+          (gives-checked (Each (SpanFits P)) _ _ refl
+          (pair-gives (SpanFits P) (SpanFits P) rule fit (repeated columns xs) (repeated columns ys)
+          (each-repeated (SpanFits P) columns xs p) (each-repeated (SpanFits P) columns ys q)))
+          (λ zs e f. let m = range-columns rule columns xs ys e .many in (omega arith, f))
+
+      alone-few : (xs : List (Span E)) → Each (SpanFits P) xs → Gives (Few (SpanFits P)) (rangeAlone rule columns xs)
+      unfolding rangeAlone
+      alone-few xs p =
+          gives-more (Each (SpanFits P)) (Few (SpanFits P)) (rangeAlone rule columns xs)
+          (gives-checked (Each (SpanFits P)) _ _ refl
+          (each-gives (SpanFits P) (SpanFits P) (λ x. rule x x) (λ x f. fit x x f f) (repeated columns xs) (each-repeated (SpanFits P) columns xs p)))
+          (λ zs e f. let m = alone-columns rule columns xs e .many in (omega arith, f))
+
+    whole-made : (g : Result (List (Span ℤ))) → Gives (Few (SpanFits Whole)) g → Gives (Made limit) (andThen g (λ zs. ok (wholeRange zs)))
+    whole-made g h = gives-then (Few (SpanFits Whole)) (Made limit) g _ h (λ zs f. record { entries = f .0; values = omega arith; fits = f .1 })
+
+    float-made : (g : Result (List (Span Float))) → Gives (Few (SpanFits Double)) g → Gives (Made limit) (andThen g (λ zs. ok (floatRange zs)))
+    float-made g h = gives-then (Few (SpanFits Double)) (Made limit) g _ h (λ zs f. record { entries = f .0; values = omega arith; fits = f .1 })
+
+    whole-with : (xs : List (Span ℤ)) (r : Nature) → Each (SpanFits Whole) xs → NatureFits narrow r
+        → Gives (Made limit) (wholeRangeWith limit c type columns xs r)
+    unfolding wholeRangeWith
+    whole-with xs absent p q = none-made
+    whole-with xs (wholeRange ys) p q =
+        whole-made (rangePair (wholeRule c type) columns xs ys) (range-few Whole (wholeRule c type) (whole-rule-fits c type) xs ys p q)
+    whole-with xs (floatRange ys) p q = omega arith
+    whole-with xs (wholeLists ms) p q = none-made
+    whole-with xs (boolLists ms) p q = none-made
+    whole-with xs (floatLists ms) p q = none-made
+
+    float-with : (xs : List (Span Float)) (r : Nature) → Each (SpanFits Double) xs → NatureFits narrow r
+        → Gives (Made limit) (floatRangeWith limit c type columns xs r)
+    unfolding floatRangeWith
+    float-with xs absent p q = none-made
+    float-with xs (wholeRange ys) p q = omega arith
+    float-with xs (floatRange ys) p q =
+        float-made (rangePair (endRule float c) columns xs ys) (range-few Double (endRule float c) (rule-fits float Double float-fits c) xs ys p q)
+    float-with xs (wholeLists ms) p q = none-made
+    float-with xs (boolLists ms) p q = none-made
+    float-with xs (floatLists ms) p q = none-made
+
+    lists-with : (l r : Nature) → ((r : Nature) → Each Wholes (wholeListsOf r) → Gives (Made limit) (listsPair limit c type columns l r))
+        → NatureFits narrow r → Gives (Made limit) (listsWith limit c type columns l r)
+    unfolding listsWith
+    lists-with l absent h q = none-made
+    lists-with l (wholeRange ys) h q = none-made
+    lists-with l (floatRange ys) h q = none-made
+    lists-with l (wholeLists ms) h q = h (wholeLists ms) (q .values)
+    lists-with l (boolLists ms) h q = h (boolLists ms) tt
+    lists-with l (floatLists ms) h q = h (floatLists ms) tt
+
+    pub binary-made : (l r : Nature) → entryCount l ≤ 16 → NatureFits narrow l → NatureFits narrow r
+        → Gives (Made limit) (binaryNature limit c type columns l r)
+    unfolding binaryNature
+    binary-made absent r n p q = none-made
+    binary-made (wholeRange xs) r n p q = whole-with xs r p q
+    binary-made (floatRange xs) r n p q = float-with xs r p q
+    binary-made (wholeLists ls) r n p q = lists-with (wholeLists ls) r (λ r f. pair-made ls r n (p .values) f) q
+    binary-made (boolLists ls) r n p q = lists-with (boolLists ls) r (λ r f. no-bool ls r) q
+    binary-made (floatLists ls) r n p q = lists-with (floatLists ls) r (λ r f. no-float ls r) q
+
+    pub unary-made : (l : Nature) → entryCount l ≤ 16 → NatureFits narrow l → Gives (Made limit) (unaryNature limit c type columns l)
+    unfolding unaryNature listsAlone
+    unary-made absent n p = none-made
+    unary-made (wholeRange xs) n p =
+        whole-made (rangeAlone (endRule whole c) columns xs) (alone-few Whole (endRule whole c) (rule-fits whole Whole whole-fits c) xs p)
+    unary-made (floatRange xs) n p =
+        float-made (rangeAlone (endRule float c) columns xs) (alone-few Double (endRule float c) (rule-fits float Double float-fits c) xs p)
+    unary-made (wholeLists ls) n p = alone-made ls n (p .values)
+    unary-made (boolLists ls) n p = gives-checked (Made limit) _ (refused 22) refl (omega arith)
+    unary-made (floatLists ls) n p = gives-checked (Made limit) _ (refused 22) refl (omega arith)
