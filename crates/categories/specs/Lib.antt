@@ -1,1 +1,3 @@
 pub mod Categories
+pub mod Columnwise
+pub mod Answers

@@ -1,0 +1,5 @@
+-- What the proofs of several functions, and of the crates above, cite.
+pub mod Pairs
+pub mod Operands
+pub mod Columnwise
+pub mod Gathering
