@@ -1,5 +1,6 @@
 pub mod Natures
 pub mod Derive
 pub mod Single
+pub mod Code
 pub mod Computing
 pub mod Shelf

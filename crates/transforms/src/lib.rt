@@ -1,1 +1,220 @@
-// The components: shapes, natures, and the single step.
+// The single step: `propagate_property` of the nine components, from the operands' bytes to the derived sheet's.
+use base::Component;
+use base::Head;
+use base::form;
+use bytes::Put;
+use writer::Derived;
+use writer::Parts;
+ghost use mathlib.Core.Path.{_≡_};
+ghost use mathlib.Core.Bool.{true, cond};
+ghost use Prim.Native.Nat.{_≤_};
+ghost use lib.ListN.{length, take};
+ghost use Rattle.numbers.specs.Result.{ok, andThen};
+ghost use Rattle.base.specs.Form.{narrow, longest};
+ghost use Rattle.base.specs.Decode.{decode, groupsIn};
+ghost use Rattle.base.specs.Code.{headFields};
+ghost use Rattle.writer.specs.Room.{Room};
+ghost use Rattle.writer.specs.Written.{sheetFrom, partsIn};
+ghost use Rattle.base.specs.Encode.{encode};
+ghost use Rattle.base.specs.Components.{isUnary};
+ghost use Rattle.shape.specs.Fields.{numbered};
+ghost use Rattle.transforms.specs.Derive.{deriveUnary, derivePair, derive};
+ghost use Rattle.transforms.specs.Single.{step};
+ghost use Rattle.transforms.specs.Code.{Read, isPair, isCopy, stepIn, Held, refusalOf};
+
+mod natures;
+
+// How long the two buffers of a derived nature are.
+const FIRST_ROOM: usize = form::END_WIDTH * form::LIST_LIMIT;
+
+const SECOND_ROOM: usize = form::VALUE_WIDTH * form::CATEGORY_LIMIT;
+
+// The refusal that a derived nature is.
+fn refusal(derived: Derived) -> Put
+    ensures { λ r. ⌜ r ≡ refusalOf derived ⌝ }
+{
+    match derived {
+        Derived::Refused(k) => Put::Refused(k),
+        Derived::Nature(_) => Put::Refused(0),
+    }
+}
+
+// Abs and Negative copy their operand but for its nature.
+fn step_unary(c: Component, left: &[u8], out: &mut [u8]) -> Put
+    requires { ⌜ Read (now left) × (isUnary c ≡ true) × (longest narrow ≤ length (now out)) ⌝ }
+    ensures { λ r. ⌜ (stepIn r (now (out .exit)) ≡ andThen (deriveUnary (narrow .categoryLimit) c (decode narrow (now (left .entry)))) (λ s. ok (encode narrow s))) × Held r (length (now (out .entry))) ⌝ }
+{
+    let h = base::read_head(left);
+    let k = shape::codes::unary_code(h);
+    if k != 0 {
+        return Put::Refused(k);
+    }
+    let columns = shape::columns_of(h) as usize;
+    let mut first = [0u8; FIRST_ROOM];
+    let mut second = [0u8; SECOND_ROOM];
+    let derived = natures::propagate_unary_nature(
+        c,
+        h.data_type,
+        columns,
+        left,
+        &mut first,
+        &mut second,
+    );
+    match derived {
+        Derived::Refused(n) => Put::Refused(n),
+        Derived::Nature(p) => Put::At(writer::put_sheet(
+            out,
+            p,
+            &first,
+            &second,
+            h,
+            base::node_at(left),
+            left,
+        )),
+    }
+}
+
+// The groups are right's where left is releasable, else left's.
+fn put_pair(
+    out: &mut [u8],
+    p: Parts,
+    first: &[u8],
+    second: &[u8],
+    h: Head,
+    node: i64,
+    left: &[u8],
+    right: &[u8],
+    switch: bool,
+) -> usize
+    requires { ⌜ Room p (now first) (now second) (now left) (now out) × Room p (now first) (now second) (now right) (now out) ⌝ }
+    ensures { λ r. ⌜ (r ≤ length (now (out .entry))) × (take r (now (out .exit)) ≡ sheetFrom narrow (headFields h) node (cond switch (groupsIn narrow (now (right .entry))) (groupsIn narrow (now (left .entry)))) (partsIn p (now (first .entry)) (now (second .entry)))) ⌝ }
+{
+    if switch {
+        return writer::put_sheet(out, p, first, second, h, node, right);
+    }
+    writer::put_sheet(out, p, first, second, h, node, left)
+}
+
+// Add, Subtract, Multiply and Divide.
+fn step_pair(c: Component, node: u32, left: &[u8], right: &[u8], out: &mut [u8]) -> Put
+    requires { ⌜ Read (now left) × Read (now right) × (isPair c ≡ true) × (longest narrow ≤ length (now out)) ⌝ }
+    ensures { λ r. ⌜ (stepIn r (now (out .exit)) ≡ andThen (derivePair (narrow .categoryLimit) c (decode narrow (now (left .entry))) (decode narrow (now (right .entry)))) (λ s. ok (encode narrow (numbered c node s)))) × Held r (length (now (out .entry))) ⌝ }
+{
+    let l = base::read_head(left);
+    let r = base::read_head(right);
+    let k = shape::codes::pair_code(left, right, l, r);
+    if k != 0 {
+        return Put::Refused(k);
+    }
+    let columns = shape::widest(l, r) as usize;
+    let mut first = [0u8; FIRST_ROOM];
+    let mut second = [0u8; SECOND_ROOM];
+    let derived = natures::propagate_binary_nature(
+        c,
+        l.data_type,
+        columns,
+        left,
+        right,
+        &mut first,
+        &mut second,
+    );
+    let Derived::Nature(p) = derived else {
+        return refusal(derived);
+    };
+    let more = shape::zero::adds_nullity(c, right);
+    let h = shape::pair_head(more, l, r);
+    Put::At(put_pair(
+        out,
+        p,
+        &first,
+        &second,
+        h,
+        node as i64,
+        left,
+        right,
+        l.releasable,
+    ))
+}
+
+// Modulo, Log and Power copy left but for a few fields.
+fn is_copy(c: Component) -> bool
+    ensures { λ r. ⌜ r ≡ isCopy c ⌝ }
+{
+    match c {
+        Component::Abs => false,
+        Component::Add => false,
+        Component::Subtract => false,
+        Component::Multiply => false,
+        Component::Divide => false,
+        Component::Modulo => true,
+        Component::Log => true,
+        Component::Power => true,
+        Component::Negative => false,
+    }
+}
+
+// Modulo, Log and Power.
+fn step_copy(c: Component, left: &[u8], right: &[u8], out: &mut [u8]) -> Put
+    requires { ⌜ Read (now left) × Read (now right) × (isCopy c ≡ true) × (longest narrow ≤ length (now out)) ⌝ }
+    ensures { λ r. ⌜ (stepIn r (now (out .exit)) ≡ andThen (derive (narrow .categoryLimit) c (decode narrow (now (left .entry))) (decode narrow (now (right .entry)))) (λ s. ok (encode narrow s))) × Held r (length (now (out .entry))) ⌝ }
+{
+    let l = base::read_head(left);
+    let r = base::read_head(right);
+    let k = shape::codes::copy_code(c, left, right, l, r);
+    if k != 0 {
+        return Put::Refused(k);
+    }
+    let columns = shape::columns_of(l) as usize;
+    let mut first = [0u8; FIRST_ROOM];
+    let mut second = [0u8; SECOND_ROOM];
+    let derived = natures::propagate_binary_nature(
+        c,
+        l.data_type,
+        columns,
+        left,
+        right,
+        &mut first,
+        &mut second,
+    );
+    let Derived::Nature(p) = derived else {
+        return refusal(derived);
+    };
+    let m = shape::codes::last_code(left, right, l, r);
+    if m != 0 {
+        return Put::Refused(m);
+    }
+    let h = shape::copy_head(l, r);
+    Put::At(put_pair(
+        out,
+        p,
+        &first,
+        &second,
+        h,
+        base::node_at(left),
+        left,
+        right,
+        l.releasable,
+    ))
+}
+
+// The derived sheet at the start of a buffer that holds the longest, or the refusal.
+pub fn step(c: Component, node: u32, left: &[u8], right: &[u8], out: &mut [u8]) -> Put
+    requires { ⌜ longest narrow ≤ length (now out) ⌝ }
+    ensures { λ r. ⌜ (stepIn r (now (out .exit)) ≡ step narrow c node (now (left .entry)) (now (right .entry))) × Held r (length (now (out .entry))) ⌝ }
+{
+    let k = base::check_sheet(left);
+    if k != 0 {
+        return Put::Refused(k);
+    }
+    if c.is_unary() {
+        return step_unary(c, left, out);
+    }
+    let m = base::check_sheet(right);
+    if m != 0 {
+        return Put::Refused(m);
+    }
+    if is_copy(c) {
+        return step_copy(c, left, right, out);
+    }
+    step_pair(c, node, left, right, out)
+}

@@ -1,0 +1,241 @@
+-- Category operands: which of 19 to 22 refuses, and the rule on whole categories where none does.
+--     left-fails, right-fails, unequal-lists, bool-pair, no-rule, pair-ruled    of two operands
+--     alone-fails, bool-alone, alone-ruled                                      of one
+-- Assumes nothing.
+use mathlib.Core.Path.{_≡_, refl, sym, ap, ap₂, _∙_}
+use mathlib.Core.Bool.{Bool, true, false, cond, not}
+use mathlib.Core.List.{List, [], _∷_}
+use mathlib.Core.Logic.{_⊎_, ⊎-elim}
+use mathlib.Core.Option.{Option, none, some}
+use Prim.Native.Nat.{ℕ, zero, suc, _≤_, _<_}
+use native.Mathlib.Omega.{arith}
+use lib.IntN.{ℤ}
+use lib.Dec.{eqb}
+use borrow.Author.Tests.{eqb-false, ne-eqb, eq-eqb, not-true}
+use Rattle.numbers.specs.Result.{Result, refused, check, checked, firstFailing}
+use Rattle.base.specs.Form.{narrow, byteAt, natureAt, isRangeNature, listCount, floatListsNature}
+use Rattle.base.specs.Sheet.{Nature}
+use Rattle.base.specs.Decode.{asWhole, natureIn, lists}
+use Rattle.base.specs.Encode.{natureNumber, entryCount}
+use Rattle.base.specs.declared.Component.{Component}
+use Rattle.base.specs.declared.Component.the-variants as C
+use Rattle.base.proofs.Natures.{nature-whole-lists, nature-bool-lists}
+use Rattle.categories.specs.Categories.{categoryRule, combined, mapped, limited, ruleOf}
+use Rattle.categories.specs.Columnwise.{Listed}
+use Rattle.transforms.specs.Natures.{ruleFor, ruled, wholeListsOf, isFloatLists, noLists, listsPair, listsAlone}
+use Rattle.transforms.specs.Code.{Lists, Reached, ruledByNumber, hasRule}
+use Rattle.transforms.proofs.Sorted.{yes-no, nature-within, number-of, count-of}
+
+-- ---- 19 and 20
+
+abbrev code : Bool → Bool → ℕ
+code a b = firstFailing (check 19 a ∷ check 20 b ∷ [])
+
+codes-none : (a b : Bool) → code a b ≡ 0 → (a ≡ false) × (b ≡ false)
+unfolding firstFailing
+codes-none true b e = absurd (omega arith)
+codes-none false true e = absurd (omega arith)
+codes-none false false e = (refl, refl)
+
+module _ {X : Type 0} where
+  one-fails : (a b : Bool) (rest : Result X) {k : ℕ} → k ≡ code a b → (k ≡ 0 → ⊥) → checked (check 19 a ∷ check 20 b ∷ []) rest ≡ refused k
+  unfolding checked firstFailing
+  one-fails true b rest e h = ap refused (sym e)
+  one-fails false true rest e h = ap refused (sym e)
+  one-fails false false rest e h = absurd (h e)
+
+  one-passes : (a b : Bool) (rest : Result X) → code a b ≡ 0 → checked (check 19 a ∷ check 20 b ∷ []) rest ≡ rest
+  unfolding checked firstFailing
+  one-passes true b rest e = absurd (omega arith)
+  one-passes false true rest e = absurd (omega arith)
+  one-passes false false rest e = refl
+
+  abbrev both : Bool → Bool → Bool → Bool → Bool → Result X → Result X
+  both a b p q d rest = checked (check 19 a ∷ check 20 b ∷ check 19 p ∷ check 20 q ∷ check 21 d ∷ []) rest
+
+  first-fails : (a b p q d : Bool) (rest : Result X) {k : ℕ} → k ≡ code a b → (k ≡ 0 → ⊥) → both a b p q d rest ≡ refused k
+  unfolding checked firstFailing
+  first-fails true b p q d rest e h = ap refused (sym e)
+  first-fails false true p q d rest e h = ap refused (sym e)
+  first-fails false false p q d rest e h = absurd (h e)
+
+  second-fails : (a b p q d : Bool) (rest : Result X) {k : ℕ} → code a b ≡ 0 → k ≡ code p q → (k ≡ 0 → ⊥) → both a b p q d rest ≡ refused k
+  unfolding checked firstFailing
+  second-fails true b p q d rest f e h = absurd (omega arith)
+  second-fails false true p q d rest f e h = absurd (omega arith)
+  second-fails false false true q d rest f e h = ap refused (sym e)
+  second-fails false false false true d rest f e h = ap refused (sym e)
+  second-fails false false false false d rest f e h = absurd (h e)
+
+  both-pass : (a b p q d : Bool) (rest : Result X) → code a b ≡ 0 → code p q ≡ 0 → both a b p q d rest ≡ cond d (refused 21) rest
+  unfolding checked firstFailing
+  both-pass true b p q d rest f g = absurd (omega arith)
+  both-pass false true p q d rest f g = absurd (omega arith)
+  both-pass false false true q d rest f g = absurd (omega arith)
+  both-pass false false false true d rest f g = absurd (omega arith)
+  both-pass false false false false d rest f g = refl
+
+-- ---- an operand
+
+-- the code of an operand's nature byte and list count
+abbrev pub codeFrom : ℕ → ℕ → ℕ
+codeFrom nature n = code (eqb nature floatListsNature) (eqb n 0)
+
+-- categories that 19 and 20 pass
+pub record Fine (s : List ℕ) : Type 0 where
+  pub lists : Lists s
+  pub codes : code (isFloatLists (natureIn narrow s)) (noLists (natureIn narrow s)) ≡ 0
+
+module _ {s : List ℕ} (l : Lists s) {n k : ℕ} (e : n ≡ listCount narrow s) (h : k ≡ codeFrom (byteAt narrow natureAt s) n) where
+  code-is : k ≡ code (isFloatLists (natureIn narrow s)) (noLists (natureIn narrow s))
+  code-is = h ∙ ap₂ codeFrom (sym (number-of s (l .read))) (e ∙ sym (count-of s l))
+
+  pub fine : k ≡ 0 → Fine s
+  fine z = record { lists = l; codes = sym code-is ∙ z }
+
+module _ {s : List ℕ} (f : Fine s) where
+  no-float : byteAt narrow natureAt s ≡ 5 → ⊥
+  no-float e =
+      eqb-false (natureNumber (natureIn narrow s)) 5
+      (codes-none (isFloatLists (natureIn narrow s)) (noLists (natureIn narrow s)) (f .codes) .0)
+      (number-of s (f .lists .read) ∙ e)
+
+  -- neither bool nor float
+  pub is-whole : (byteAt narrow natureAt s ≡ 4 → ⊥) → byteAt narrow natureAt s ≡ 3
+  is-whole other =
+      go (byteAt narrow natureAt s) (nature-within s (f .lists .read)) (f .lists .present) (f .lists .no-range) other no-float
+    where
+      go : (k : ℕ) → k ≤ 5 → eqb k 0 ≡ false → isRangeNature k ≡ false → (k ≡ 4 → ⊥) → (k ≡ 5 → ⊥) → k ≡ 3
+      go zero h p r x y = absurd (yes-no p)
+      go (suc zero) h p r x y = absurd (yes-no r)
+      go (suc (suc zero)) h p r x y = absurd (yes-no r)
+      go (suc (suc (suc zero))) h p r x y = refl
+      go (suc (suc (suc (suc zero)))) h p r x y = absurd (x refl)
+      go (suc (suc (suc (suc (suc zero))))) h p r x y = absurd (y refl)
+      go (suc (suc (suc (suc (suc (suc k)))))) h p r x y = absurd (omega arith)
+
+  pub fine-listed : byteAt narrow natureAt s ≡ 3 → Listed narrow s
+  fine-listed e =
+      let some-list = codes-none (isFloatLists (natureIn narrow s)) (noLists (natureIn narrow s)) (f .codes) .1 in
+      let other = eqb-false (entryCount (natureIn narrow s)) 0 some-list in
+      let same = count-of s (f .lists) in
+      record { passed = f .lists .read .sizes; nature = e; some = go (listCount narrow s) (λ z. other (same ∙ z)) }
+    where
+      go : (n : ℕ) → (n ≡ 0 → ⊥) → 0 < n
+      go n h = omega (arith, h)
+
+-- ---- the rules
+
+rule-none : (c : Component) (type : ℕ) → ruledByNumber c type ≡ true → hasRule c ≡ false → categoryRule c type ≡ none
+unfolding categoryRule
+rule-none C.Abs type h n = absurd (yes-no n)
+rule-none C.Add type h n = absurd (yes-no n)
+rule-none C.Subtract type h n = absurd (yes-no n)
+rule-none C.Multiply type h n = absurd (yes-no n)
+rule-none C.Divide type h n = absurd (yes-no n)
+rule-none C.Modulo type h n = rw (not-true (eqb type 4) h)
+rule-none C.Log type h n = refl
+rule-none C.Power type h n = rw (not-true (eqb type 4) h)
+rule-none C.Negative type h n = absurd (yes-no n)
+
+rule-some : (c : Component) (type : ℕ) → hasRule c ≡ true → categoryRule c type ≡ some (ruleOf c)
+unfolding categoryRule
+rule-some C.Abs type h = refl
+rule-some C.Add type h = refl
+rule-some C.Subtract type h = refl
+rule-some C.Multiply type h = refl
+rule-some C.Divide type h = refl
+rule-some C.Modulo type h = absurd (yes-no (sym h))
+rule-some C.Log type h = absurd (yes-no (sym h))
+rule-some C.Power type h = absurd (yes-no (sym h))
+rule-some C.Negative type h = refl
+
+-- ---- two operands
+
+module _ (limit : ℕ) (c : Component) (type columns : ℕ) where
+  -- what 19 to 21 leave
+  abbrev combining : Nature → Nature → Result Nature
+  combining l r = ruled (ruleFor c type l) (λ rule. limited limit (combined rule columns (wholeListsOf l) (wholeListsOf r)))
+
+  abbrev mapping : Nature → Result Nature
+  mapping l = ruled (ruleFor c type l) (λ rule. limited limit (mapped rule columns (wholeListsOf l)))
+
+  module _ (left right : List ℕ) where
+    abbrev l : Nature
+    l = natureIn narrow left
+
+    abbrev r : Nature
+    r = natureIn narrow right
+
+    abbrev differ : Bool
+    differ = not (eqb (natureNumber l) (natureNumber r))
+
+    pub left-fails : Lists left → {n k : ℕ} → n ≡ listCount narrow left → k ≡ codeFrom (byteAt narrow natureAt left) n → (k ≡ 0 → ⊥) → listsPair limit c type columns l r ≡ refused k
+    unfolding listsPair
+    left-fails x e h z = first-fails (isFloatLists l) (noLists l) (isFloatLists r) (noLists r) differ (combining l r) (code-is x e h) z
+
+    pub right-fails : Fine left → Lists right → {n k : ℕ} → n ≡ listCount narrow right → k ≡ codeFrom (byteAt narrow natureAt right) n → (k ≡ 0 → ⊥) → listsPair limit c type columns l r ≡ refused k
+    unfolding listsPair
+    right-fails f y e h z = second-fails (isFloatLists l) (noLists l) (isFloatLists r) (noLists r) differ (combining l r) (f .codes) (code-is y e h) z
+
+    module _ (f : Fine left) (g : Fine right) where
+      opened : listsPair limit c type columns l r ≡ cond differ (refused 21) (combining l r)
+      unfolding listsPair
+      opened = both-pass (isFloatLists l) (noLists l) (isFloatLists r) (noLists r) differ (combining l r) (f .codes) (g .codes)
+
+      pub unequal-lists : (byteAt narrow natureAt left ≡ byteAt narrow natureAt right → ⊥) → listsPair limit c type columns l r ≡ refused 21
+      unequal-lists d =
+          let x = number-of left (f .lists .read) in
+          let y = number-of right (g .lists .read) in
+          opened ∙ ap (λ (b : Bool). cond (not b) (refused 21) (combining l r)) (ne-eqb (natureNumber l) (natureNumber r) (λ e. d (sym x ∙ e ∙ y)))
+
+      equal-lists : byteAt narrow natureAt left ≡ byteAt narrow natureAt right → listsPair limit c type columns l r ≡ combining l r
+      equal-lists d =
+          let x = number-of left (f .lists .read) in
+          let y = number-of right (g .lists .read) in
+          opened ∙ ap (λ (b : Bool). cond (not b) (refused 21) (combining l r)) (eq-eqb (natureNumber l) (natureNumber r) (x ∙ d ∙ sym y))
+
+      pub bool-pair : byteAt narrow natureAt left ≡ byteAt narrow natureAt right → byteAt narrow natureAt left ≡ 4 → listsPair limit c type columns l r ≡ refused 22
+      bool-pair d e = equal-lists d ∙ ap (λ (k : Nature). combining k r) (nature-bool-lists narrow left e)
+
+      module _ (d : byteAt narrow natureAt left ≡ byteAt narrow natureAt right) (e : byteAt narrow natureAt left ≡ 3) where
+        whole-pair : listsPair limit c type columns l r
+            ≡ ruled (categoryRule c type) (λ rule. limited limit (combined rule columns (lists narrow left asWhole) (lists narrow right asWhole)))
+        whole-pair =
+            equal-lists d
+            ∙ ap₂ (λ (x y : Nature). combining x y) (nature-whole-lists narrow left e) (nature-whole-lists narrow right (sym d ∙ e))
+
+        pub no-rule : Reached c type right → hasRule c ≡ false → listsPair limit c type columns l r ≡ refused 22
+        no-rule reached n =
+            ⊎-elim
+            (λ h.
+            whole-pair
+            ∙ ap (λ (o : Option (ℤ → ℤ → Result ℤ)). ruled o (λ rule. limited limit (combined rule columns (lists narrow left asWhole) (lists narrow right asWhole)))) (rule-none c type h n))
+            (λ h. absurd (yes-no (sym h ∙ g .lists .no-range)))
+            reached
+
+        pub pair-ruled : hasRule c ≡ true → listsPair limit c type columns l r ≡ limited limit (combined (ruleOf c) columns (lists narrow left asWhole) (lists narrow right asWhole))
+        pair-ruled h =
+            whole-pair
+            ∙ ap (λ (o : Option (ℤ → ℤ → Result ℤ)). ruled o (λ rule. limited limit (combined rule columns (lists narrow left asWhole) (lists narrow right asWhole)))) (rule-some c type h)
+
+  -- ---- one operand
+
+  module _ {s : List ℕ} where
+    pub alone-fails : Lists s → {n k : ℕ} → n ≡ listCount narrow s → k ≡ codeFrom (byteAt narrow natureAt s) n → (k ≡ 0 → ⊥) → listsAlone limit c type columns (natureIn narrow s) ≡ refused k
+    unfolding listsAlone
+    alone-fails x e h z = one-fails (isFloatLists (natureIn narrow s)) (noLists (natureIn narrow s)) (mapping (natureIn narrow s)) (code-is x e h) z
+
+    module _ (f : Fine s) where
+      alone-opened : listsAlone limit c type columns (natureIn narrow s) ≡ mapping (natureIn narrow s)
+      unfolding listsAlone
+      alone-opened = one-passes (isFloatLists (natureIn narrow s)) (noLists (natureIn narrow s)) (mapping (natureIn narrow s)) (f .codes)
+
+      pub bool-alone : byteAt narrow natureAt s ≡ 4 → listsAlone limit c type columns (natureIn narrow s) ≡ refused 22
+      bool-alone e = alone-opened ∙ ap (λ (k : Nature). mapping k) (nature-bool-lists narrow s e)
+
+      pub alone-ruled : byteAt narrow natureAt s ≡ 3 → hasRule c ≡ true → listsAlone limit c type columns (natureIn narrow s) ≡ limited limit (mapped (ruleOf c) columns (lists narrow s asWhole))
+      alone-ruled e h =
+          alone-opened
+          ∙ ap (λ (k : Nature). mapping k) (nature-whole-lists narrow s e)
+          ∙ ap (λ (o : Option (ℤ → ℤ → Result ℤ)). ruled o (λ rule. limited limit (mapped rule columns (lists narrow s asWhole)))) (rule-some c type h)

@@ -1,0 +1,205 @@
+-- What operands that passed their checks are known to be.
+--     unary-columns, pair-columns, copy-columns    the output columns are within their limits
+--     reached                                      15 has kept categories on the right from Modulo and Int Power
+-- Assumes nothing.
+use mathlib.Core.Path.{_≡_, refl, sym, subst, _∙_}
+use mathlib.Core.Bool.{Bool, true, false, cond, not, _&&_}
+use mathlib.Core.List.{List, [], _∷_, _++_}
+use mathlib.Core.Option.{Option, none, some, Option·getD}
+use mathlib.Core.Logic.{_⊎_, inl, inr}
+use Prim.Native.Nat.{ℕ, _≤_, _<_}
+use native.Mathlib.Omega.{arith}
+use lib.Dec.{T, eqb}
+use borrow.Author.Tests.{not-true, not-false, eq-eqb, eqb-true}
+use Rattle.numbers.specs.Result.{Check, check, firstFailing}
+use Rattle.utilities.specs.Lists.{every}
+use Rattle.base.specs.Form.{narrow, byteAt, natureAt, isRangeNature, intType, floatType}
+use Rattle.base.specs.Sheet.{Fields, Nature, absent, wholeRange, floatRange, wholeLists, boolLists, floatLists}
+use Rattle.base.specs.Decode.{asFloat, asWhole, asBits, entries, lists, fieldsIn, natureIn, decode}
+use Rattle.base.specs.Checks.{fieldsFail}
+use Rattle.base.specs.Bounds.{isPresent, wholeLowersPresent, lowersPositive, lowersPresent, lowersNonNegative}
+use Rattle.base.specs.Components.{isUnary}
+use Rattle.base.specs.declared.Component.{Component}
+use Rattle.base.specs.declared.Component.the-variants as C
+use Rattle.base.proofs.Flags.{or-no}
+use Rattle.base.proofs.Permitted.{permitted, columns-within}
+use Rattle.shape.specs.Shape.{columnsOf, columnsAbsent, widest}
+use Rattle.shape.specs.Orders.{unaryChecks, pairChecks, copyChecks}
+use Rattle.shape.specs.Parts.{boundChecksOf}
+use Rattle.shape.proofs.Refusals.{Numbered}
+use Rattle.shape.proofs.Orders.{unary-numbered, pair-numbered, copy-numbered}
+use Rattle.transforms.specs.Code.{ruledByNumber, Reached, hasRule, isPair, isCopy}
+
+-- ---- checks in a row, none of which fails
+
+abbrev Passing : List Check → Type 0
+Passing [] = Unit {0}
+Passing (c ∷ cs) = (c .fails ≡ false) × Passing cs
+
+both : (t r : Bool) → cond t r false ≡ true → (t ≡ true) × (r ≡ true)
+both true r e = (refl, e)
+both false r e = absurd (subst T (sym e) tt)
+
+none-fails : (t : Bool) (k m : ℕ) → eqb k 0 ≡ false → cond t k m ≡ 0 → (t ≡ false) × (m ≡ 0)
+none-fails true k m h e = absurd (subst T (sym (eq-eqb k 0 e) ∙ h) tt)
+none-fails false k m h e = (refl, e)
+
+all-pass : (cs : List Check) → Numbered cs → firstFailing cs ≡ 0 → Passing cs
+unfolding firstFailing every
+all-pass [] z e = tt
+all-pass (c ∷ cs) z e =
+    let b = both (not (eqb (c .number) 0)) (every (λ c. not (eqb (c .number) 0)) cs) (z .all) in
+    let h = none-fails (c .fails) (c .number) (firstFailing cs) (not-true (eqb (c .number) 0) (b .0)) e in
+    (h .0, all-pass cs (record { all = b .1 }) (h .1))
+
+pass-parts : (cs ds : List Check) → Passing (cs ++ ds) → Passing cs × Passing ds
+pass-parts [] ds p = (tt, p)
+pass-parts (c ∷ cs) ds p = let r = pass-parts cs ds (p .1) in ((p .0, r .0), r .1)
+
+-- ---- columns
+
+abbrev Limited : ℕ → Type 0
+Limited n = (0 < n) × (n ≤ narrow .columnLimit)
+
+-- 11 has kept an absent count out, and 4 any other than 1 to 16
+columns-limited : (s : List ℕ) → fieldsFail narrow s ≡ false → columnsAbsent (fieldsIn narrow s) ≡ false → Limited (columnsOf (fieldsIn narrow s))
+columns-limited s h e = go (fieldsIn narrow s .columns) refl e
+  where
+    go : (o : Option ℕ) → fieldsIn narrow s .columns ≡ o → not (isPresent o) ≡ false → Limited (Option·getD o 0)
+    go none x y = absurd (subst T y tt)
+    go (some c) x y = columns-within narrow s (permitted narrow s h) x
+
+pub unary-columns :
+    (s : List ℕ) → fieldsFail narrow s ≡ false → {x : Fields} {columns : ℕ} → x ≡ fieldsIn narrow s → columns ≡ columnsOf x
+    → firstFailing (unaryChecks x) ≡ 0 → Limited columns
+unary-columns s h head width e =
+    let passes : firstFailing (unaryChecks (fieldsIn narrow s)) ≡ 0 = rw head at e in
+    rw (width, head) (columns-limited s h (all-pass (unaryChecks (fieldsIn narrow s)) (unary-numbered (fieldsIn narrow s)) passes .1 .0))
+
+module _ (left right : List ℕ) where
+  pub pair-columns :
+      fieldsFail narrow left ≡ false → fieldsFail narrow right ≡ false → firstFailing (pairChecks (decode narrow left) (decode narrow right)) ≡ 0
+      → {x y : Fields} {columns : ℕ} → x ≡ fieldsIn narrow left → y ≡ fieldsIn narrow right → columns ≡ widest x y → Limited columns
+  unfolding decode
+  pair-columns h k e lh rh width =
+      let l = decode narrow left in
+      let r = decode narrow right in
+      let p = all-pass (pairChecks l r) (pair-numbered l r) e .1 .1 .1 .1 .1 .1 .1 .0 in
+      let q = or-no (columnsAbsent (l .fields)) (columnsAbsent (r .fields)) p in
+      let a = columns-limited left h (q .0) in
+      let b = columns-limited right k (q .1) in
+      rw (width, lh, rh) (omega arith, omega arith)
+
+  module _ (c : Component) (e : firstFailing (copyChecks (decode narrow left) (decode narrow right) (boundChecksOf c (decode narrow left) (decode narrow right))) ≡ 0) where
+    copy-passes : Passing (boundChecksOf c (decode narrow left) (decode narrow right)) × Passing (check 11 (columnsAbsent (fieldsIn narrow left)) ∷ [])
+    unfolding decode
+    copy-passes =
+        let l = decode narrow left in
+        let r = decode narrow right in
+        pass-parts (boundChecksOf c l r) (check 11 (columnsAbsent (fieldsIn narrow left)) ∷ [])
+        (all-pass (copyChecks l r (boundChecksOf c l r)) (copy-numbered l r c) e .1 .1 .1 .1)
+
+    pub copy-columns : fieldsFail narrow left ≡ false → {x : Fields} {columns : ℕ} → x ≡ fieldsIn narrow left → columns ≡ columnsOf x → Limited columns
+    copy-columns h head width = rw (width, head) (columns-limited left h (copy-passes .1 .0))
+
+-- ---- 15 of Modulo and Int Power
+
+-- `lower_int` gives a list only of a whole range
+whole-is-range : (s : List ℕ) → wholeLowersPresent (natureIn narrow s) ≡ true → isRangeNature (byteAt narrow natureAt s) ≡ true
+unfolding natureIn wholeLowersPresent
+whole-is-range s e = let k = byteAt narrow natureAt s in go (eqb k 1) (eqb k 2) (eqb k 3) (eqb k 4) (eqb k 5) (wholeRange (entries narrow s asWhole)) refl e
+  where
+    go : (a b c d f : Bool) (whole : Nature) → eqb (byteAt narrow natureAt s) 1 ≡ a
+        → wholeLowersPresent
+        (cond a whole
+        (cond b (floatRange (entries narrow s asFloat)) (cond c (wholeLists (lists narrow s asWhole)) (cond d (boolLists (lists narrow s asBits)) (cond f (floatLists (lists narrow s asBits)) absent)))))
+        ≡ true
+        → isRangeNature (byteAt narrow natureAt s) ≡ true
+    go true b c d f whole h e = rw h
+    go false true c d f whole h e = absurd (subst T (sym e) tt)
+    go false false true d f whole h e = absurd (subst T (sym e) tt)
+    go false false false true f whole h e = absurd (subst T (sym e) tt)
+    go false false false false true whole h e = absurd (subst T (sym e) tt)
+    go false false false false false whole h e = absurd (subst T (sym e) tt)
+
+-- the checks 14 to 16 of Modulo and Power; `cs` and `ds` are those behind 15, and those of two Float operands
+whole-types :
+    (a b : ℕ) (w : Bool) (cs ds : List Check)
+    → Passing (cond (eqb a intType && eqb b intType) (check 15 (not w) ∷ cs) (cond (eqb a floatType && eqb b floatType) ds (check 14 true ∷ [])))
+    → (not (eqb a intType) ≡ true) ⊎ (w ≡ true)
+whole-types a b w cs ds p = go (eqb a intType) (eqb b intType) (eqb a floatType) refl refl p
+  where
+    go : (t u v : Bool) → eqb a intType ≡ t → eqb a floatType ≡ v
+        → Passing (cond (t && u) (check 15 (not w) ∷ cs) (cond (v && eqb b floatType) ds (check 14 true ∷ [])))
+        → (not t ≡ true) ⊎ (w ≡ true)
+    go false u v x y p = inl refl
+    go true true v x y p = inr (not-false w (p .0))
+    go true false true x y p = absurd (let i = eqb-true a intType x in let j = eqb-true a floatType y in omega arith)
+    go true false false x y p = absurd (subst T (p .0) tt)
+
+ranged :
+    (right : List ℕ) (type : ℕ) → (not (eqb type intType) ≡ true) ⊎ (wholeLowersPresent (natureIn narrow right) ≡ true)
+    → (not (eqb type intType) ≡ true) ⊎ (isRangeNature (byteAt narrow natureAt right) ≡ true)
+ranged right type (inl x) = inl x
+ranged right type (inr x) = inr (whole-is-range right x)
+
+pub reached :
+    (left right : List ℕ) (c : Component) {x : Fields} → x ≡ fieldsIn narrow left
+    → firstFailing (copyChecks (decode narrow left) (decode narrow right) (boundChecksOf c (decode narrow left) (decode narrow right))) ≡ 0
+    → Reached c (x .dataType) right
+unfolding decode
+reached left right C.Abs h e = inl refl
+reached left right C.Add h e = inl refl
+reached left right C.Subtract h e = inl refl
+reached left right C.Multiply h e = inl refl
+reached left right C.Divide h e = inl refl
+reached left right C.Modulo h e =
+    let k = natureIn narrow right in
+    let positive = check 16 (not (lowersPositive k)) ∷ [] in
+    rw h
+    (ranged right (fieldsIn narrow left .dataType)
+    (whole-types (fieldsIn narrow left .dataType) (fieldsIn narrow right .dataType) (wholeLowersPresent k) positive (check 15 (not (lowersPresent k)) ∷ positive)
+    (copy-passes left right C.Modulo e .0)))
+reached left right C.Log h e = inl refl
+reached left right C.Power h e =
+    let k = natureIn narrow right in
+    rw h
+    (ranged right (fieldsIn narrow left .dataType)
+    (whole-types (fieldsIn narrow left .dataType) (fieldsIn narrow right .dataType) (wholeLowersPresent k) (check 16 (not (lowersNonNegative k)) ∷ []) []
+    (copy-passes left right C.Power e .0)))
+reached left right C.Negative h e = inl refl
+
+-- ---- components
+
+pub pair-ruled : (c : Component) (type : ℕ) → isPair c ≡ true → ruledByNumber c type ≡ true
+pair-ruled C.Abs type e = refl
+pair-ruled C.Add type e = refl
+pair-ruled C.Subtract type e = refl
+pair-ruled C.Multiply type e = refl
+pair-ruled C.Divide type e = refl
+pair-ruled C.Modulo type e = absurd (subst T (sym e) tt)
+pair-ruled C.Log type e = refl
+pair-ruled C.Power type e = absurd (subst T (sym e) tt)
+pair-ruled C.Negative type e = refl
+
+pub unary-ruled : (c : Component) → isUnary c ≡ true → hasRule c ≡ true
+unary-ruled C.Abs e = refl
+unary-ruled C.Add e = refl
+unary-ruled C.Subtract e = refl
+unary-ruled C.Multiply e = refl
+unary-ruled C.Divide e = refl
+unary-ruled C.Modulo e = absurd (subst T (sym e) tt)
+unary-ruled C.Log e = absurd (subst T (sym e) tt)
+unary-ruled C.Power e = absurd (subst T (sym e) tt)
+unary-ruled C.Negative e = refl
+
+pub else-pair : (c : Component) → isUnary c ≡ false → isCopy c ≡ false → isPair c ≡ true
+else-pair C.Abs e f = absurd (subst T e tt)
+else-pair C.Add e f = refl
+else-pair C.Subtract e f = refl
+else-pair C.Multiply e f = refl
+else-pair C.Divide e f = refl
+else-pair C.Modulo e f = absurd (subst T f tt)
+else-pair C.Log e f = absurd (subst T f tt)
+else-pair C.Power e f = absurd (subst T f tt)
+else-pair C.Negative e f = absurd (subst T e tt)

@@ -1,0 +1,167 @@
+-- `transforms::natures::propagate_binary_nature` meets its contract. Assumes nothing.
+use mathlib.Core.Path.{sym, ap, _∙_}
+use native.Mathlib.Omega.{arith}
+use denote.Ref.{now}
+use borrow.Author.Needs.{needs}
+use borrow.Author.Tests.{ne-eqb}
+use Rattle.numbers.specs.Result.{Result}
+use Rattle.base.specs.Form.{narrow, byteAt, natureAt, isRangeNature}
+use Rattle.base.specs.Sheet.{Nature}
+use Rattle.base.specs.Decode.{natureIn}
+use Rattle.base.proofs.Passed.{passed, long-enough}
+use Rattle.writer.specs.Written.{inWriting}
+use Rattle.transforms.specs.Code.{Lists}
+use Rattle.transforms.proofs.Sorted.{number-of, absent-left, absent-right, range-with-lists, lists-with-range, unequal-ranges, both-ranges, both-lists}
+use Rattle.transforms.proofs.natures.propagate_binary_nature.Statement.{statement}
+use Rattle.transforms.proofs.natures.propagate_binary_nature.Tie as tie
+
+shared-slice-read-x : tie.Need-shared-slice-read-x
+shared-slice-read-x c =
+    let b = c .before .before .before .before .before in
+    let long = long-enough (passed narrow (now (b .args .left)) (b .pre .0 .sizes)) in omega arith
+
+shared-slice-read-y : tie.Need-shared-slice-read-y
+shared-slice-read-y c =
+    let b = c .before .before .before .before .before .before in
+    let long = long-enough (passed narrow (now (b .args .right)) (b .pre .1 .sizes)) in omega arith
+
+returns : tie.Need-returns
+returns c =
+    let b = c .before .before .before .before .before .before .before .before in
+    let a = b .args in
+    let left = now (a .left) in
+    let e = absent-left 128 (a .c) (a .data-type) (a .columns) (natureIn narrow left) (natureIn narrow (now (a .right))) (number-of left (b .pre .0) ∙ c .before .if1 .taken) in
+    (c .nothing-stated .ensures .0 (now (a .first)) (now (a .second)) ∙ ap (λ (g : Result Nature). inWriting narrow g) (sym e), c .nothing-stated .ensures .1)
+
+returns-2 : tie.Need-returns-2
+returns-2 c =
+    let b = c .before .before .before .before .before .before .before .before .before in
+    let a = b .args in
+    let right = now (a .right) in
+    let e = absent-right 128 (a .c) (a .data-type) (a .columns) (natureIn narrow (now (a .left))) (natureIn narrow right) (number-of right (b .pre .1) ∙ c .before .if2 .taken) in
+    (c .nothing-stated2 .ensures .0 (now (a .first)) (now (a .second)) ∙ ap (λ (g : Result Nature). inWriting narrow g) (sym e), c .nothing-stated2 .ensures .1)
+
+returns-3 : tie.Need-returns-3
+returns-3 c =
+    let b = c .before .before .before .before .before .before .before .before .before .before .before .before .before in
+    let a = b .args in
+    let left = now (a .left) in
+    let right = now (a .right) in
+    let p = number-of left (b .pre .0) in
+    let q = number-of right (b .pre .1) in
+    let x = ap isRangeNature p ∙ sym (c .before .before .before .before .is-range .ensures) ∙ c .before .before .before .if3 .taken in
+    let y = ap isRangeNature q ∙ sym (c .before .before .is-range2 .ensures) ∙ c .before .if4 .taken in
+    let e = unequal-ranges 128 (a .c) (a .data-type) (a .columns) (natureIn narrow left) (natureIn narrow right) x y (λ same. c .if5 .taken (sym p ∙ same ∙ q)) in
+    (ap (λ (g : Result Nature). inWriting narrow g) (sym e), tt)
+
+range-pair-requires : tie.Need-range-pair-requires
+range-pair-requires c κs =
+    let b = c .before .before .before .before .before .before .before .before .before .before .before .before .before .before .before in
+    let ready = b .pre .2 in
+    let within = ready .within in
+    let first = ready .first-room in
+    let second = ready .second-room in (
+      b .pre .0 .sizes,
+      sym (c .before .before .before .before .before .before .is-range .ensures) ∙ c .before .before .before .before .before .if3 .taken,
+      b .pre .1 .sizes,
+      sym (c .before .before .before .before .is-range2 .ensures) ∙ c .before .before .before .if4 .taken,
+      within,
+      omega arith,
+      omega arith,
+    )
+
+returns-4 : tie.Need-returns-4
+returns-4 c =
+    let d = c .before .before .before .before in
+    let b = d .before .before .before .before .before .before .before .before .before .before .before .before .before .before .before .before in
+    let a = b .args in
+    let e = both-ranges 128 (a .c) (a .data-type) (a .columns) (now (a .left)) (now (a .right)) (sym (d .before .before .before .before .before .before .before .is-range .ensures) ∙ d .before .before .before .before .before .before .if3 .taken) (d .before .before .before .if5 .left) in
+    (d .range-pair .ensures .0 ∙ ap (λ (g : Result Nature). inWriting narrow g) (sym e), d .range-pair .ensures .1)
+
+returns-5 : tie.Need-returns-5
+returns-5 c =
+    let b = c .before .before .before .before .before .before .before .before .before .before .before .before .before in
+    let a = b .args in
+    let left = now (a .left) in
+    let right = now (a .right) in
+    let x = ap isRangeNature (number-of left (b .pre .0)) ∙ sym (c .before .before .before .before .is-range .ensures) ∙ c .before .before .before .if3 .taken in
+    let y = ap isRangeNature (number-of right (b .pre .1)) ∙ sym (c .before .before .is-range2 .ensures) ∙ c .before .if4 .left in
+    let e = range-with-lists 128 (a .c) (a .data-type) (a .columns) (natureIn narrow left) (natureIn narrow right) x y in
+    (c .nothing-stated3 .ensures .0 (now (a .first)) (now (a .second)) ∙ ap (λ (g : Result Nature). inWriting narrow g) (sym e), c .nothing-stated3 .ensures .1)
+
+returns-6 : tie.Need-returns-6
+returns-6 c =
+    let b = c .before .before .before .before .before .before .before .before .before .before .before .before .before in
+    let a = b .args in
+    let left = now (a .left) in
+    let right = now (a .right) in
+    let x = ap isRangeNature (number-of left (b .pre .0)) ∙ sym (c .before .before .before .before .is-range .ensures) ∙ c .before .before .before .if3 .left in
+    let y = ap isRangeNature (number-of right (b .pre .1)) ∙ sym (c .before .before .is-range3 .ensures) ∙ c .before .if6 .taken in
+    let e = lists-with-range 128 (a .c) (a .data-type) (a .columns) (natureIn narrow left) (natureIn narrow right) x y in
+    (c .nothing-stated4 .ensures .0 (now (a .first)) (now (a .second)) ∙ ap (λ (g : Result Nature). inWriting narrow g) (sym e), c .nothing-stated4 .ensures .1)
+
+-- neither operand is absent or a range
+left-lists : (c : tie.Else6) → Lists (now (c .before .before .before .before .before .before .before .before .before .before .before .before .args .left))
+left-lists c = record {
+  read = c .before .before .before .before .before .before .before .before .before .before .before .before .pre .0;
+  present = ne-eqb (byteAt narrow natureAt (now (c .before .before .before .before .before .before .before .before .before .before .before .before .args .left))) 0 (c .before .before .before .before .before .if1 .left);
+  no-range = sym (c .before .before .before .is-range .ensures) ∙ c .before .before .if3 .left;
+}
+
+right-lists : (c : tie.Else6) → Lists (now (c .before .before .before .before .before .before .before .before .before .before .before .before .args .right))
+right-lists c = record {
+  read = c .before .before .before .before .before .before .before .before .before .before .before .before .pre .1;
+  present = ne-eqb (byteAt narrow natureAt (now (c .before .before .before .before .before .before .before .before .before .before .before .before .args .right))) 0 (c .before .before .before .before .if2 .left);
+  no-range = sym (c .before .is-range3 .ensures) ∙ c .if6 .left;
+}
+
+propagate-binary-categorical-nature-requires : tie.Need-propagate-binary-categorical-nature-requires
+propagate-binary-categorical-nature-requires c κs =
+    let w = c .before .before in
+    let b = w .before .before .before .before .before .before .before .before .before .before .before .before in
+    (left-lists w, right-lists w, b .pre .2, b .pre .3)
+
+returns-7 : tie.Need-returns-7
+returns-7 c =
+    let d = c .before .before .before .before in
+    let w = d .before .before .before in
+    let b = w .before .before .before .before .before .before .before .before .before .before .before .before in
+    let a = b .args in
+    let left = now (a .left) in
+    let right = now (a .right) in
+    let l = left-lists w in
+    let r = right-lists w in
+    let p = number-of left (l .read) in
+    let q = number-of right (r .read) in
+    let e =
+    both-lists 128 (a .c) (a .data-type) (a .columns) (natureIn narrow left) (natureIn narrow right) (λ z. w .before .before .before .before .before .if1 .left (sym p ∙ z)) (ap isRangeNature p ∙ l .no-range)
+    (λ z. w .before .before .before .before .if2 .left (sym q ∙ z))
+    (ap isRangeNature q ∙ r .no-range) in
+    (d .propagate-binary-categorical-nature .ensures .0 ∙ ap (λ (g : Result Nature). inWriting narrow g) (sym e), d .propagate-binary-categorical-nature .ensures .1)
+
+pub propagate-binary-nature-spec : {M : Type 1} → statement M
+propagate-binary-nature-spec =
+    tie.close
+    (tie.spec
+    shared-slice-read-x
+    shared-slice-read-y
+    (λ c κs. search needs)
+    returns
+    (λ c κs. search needs)
+    returns-2
+    (λ c κs. search needs)
+    (λ c κs. search needs)
+    returns-3
+    range-pair-requires
+    (λ c. search needs)
+    (λ c. search needs)
+    returns-4
+    (λ c κs. search needs)
+    returns-5
+    (λ c κs. search needs)
+    (λ c κs. search needs)
+    returns-6
+    propagate-binary-categorical-nature-requires
+    (λ c. search needs)
+    (λ c. search needs)
+    returns-7)

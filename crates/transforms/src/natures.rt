@@ -1,0 +1,196 @@
+// `propagate_unary_nature` and `propagate_binary_nature`: 17 to 26, and the nature derived, its arrays at the start of two lent buffers.
+use base::Component;
+use base::form;
+use writer::Derived;
+use writer::Parts;
+ghost use mathlib.Core.Path.{_≡_};
+ghost use mathlib.Core.Bool.{true};
+ghost use mathlib.Core.List.{List, [], _∷_};
+ghost use Prim.Native.Nat.{ℕ};
+ghost use lib.Dec.{eqb};
+ghost use Rattle.numbers.specs.Result.{ok, check, firstFailing};
+ghost use Rattle.base.specs.Form.{narrow, floatListsNature};
+ghost use Rattle.base.specs.Sheet.{absent};
+ghost use Rattle.base.specs.Decode.{natureIn};
+ghost use Rattle.writer.specs.Written.{inWriting, derivedIn, Within};
+ghost use Rattle.transforms.specs.Natures.{listsPair, listsAlone, unaryNature, binaryNature};
+ghost use Rattle.transforms.specs.Code.{Read, Ready, Reached, Lists, hasRule};
+
+// An absent nature, which has no arrays.
+fn nothing_stated() -> Derived
+    ensures { λ r. ⌜ ((f s : List ℕ) → derivedIn r f s ≡ inWriting narrow (ok absent)) × Within r ⌝ }
+{
+    Derived::Nature(Parts {
+        nature: form::ABSENT_NATURE,
+        entries: 0,
+        values: 0,
+        first: 0,
+        second: 0,
+    })
+}
+
+// 19 and 20 of one category operand.
+fn lists_code(nature: u8, lists: usize) -> u32
+    ensures { λ r. ⌜ r ≡ firstFailing (check 19 (eqb nature floatListsNature) ∷ check 20 (eqb lists 0) ∷ []) ⌝ }
+{
+    if nature == form::FLOAT_LISTS {
+        return 19;
+    }
+    if lists == 0 {
+        return 20;
+    }
+    0
+}
+
+// Whether a component has a rule for whole categories. Those of Modulo and Int Power are never asked: 15 comes first.
+fn has_rule(c: Component) -> bool
+    ensures { λ r. ⌜ r ≡ hasRule c ⌝ }
+{
+    match c {
+        Component::Abs => true,
+        Component::Add => true,
+        Component::Subtract => true,
+        Component::Multiply => true,
+        Component::Divide => true,
+        Component::Modulo => false,
+        Component::Log => false,
+        Component::Power => false,
+        Component::Negative => true,
+    }
+}
+
+// Two category operands: 19 to 22, then the product.
+fn propagate_binary_categorical_nature(
+    c: Component,
+    data_type: u8,
+    columns: usize,
+    left: &[u8],
+    right: &[u8],
+    first: &mut [u8],
+    second: &mut [u8],
+) -> Derived
+    requires { ⌜ Lists (now left) × Lists (now right) × Ready columns (now first) (now second) × Reached c data_type (now right) ⌝ }
+    ensures { λ r. ⌜ (derivedIn r (now (first .exit)) (now (second .exit)) ≡ inWriting narrow (listsPair (narrow .categoryLimit) c data_type columns (natureIn narrow (now (left .entry))) (natureIn narrow (now (right .entry))))) × Within r ⌝ }
+{
+    let x = left[form::NATURE_AT];
+    let y = right[form::NATURE_AT];
+    let l = base::sizes_at(left);
+    let k = lists_code(x, l.lists);
+    if k != 0 {
+        return Derived::Refused(k);
+    }
+    let r = base::sizes_at(right);
+    let m = lists_code(y, r.lists);
+    if m != 0 {
+        return Derived::Refused(m);
+    }
+    if x != y {
+        return Derived::Refused(21);
+    }
+    if x == form::BOOL_LISTS {
+        return Derived::Refused(22);
+    }
+    if !has_rule(c) {
+        return Derived::Refused(22);
+    }
+    categories::lists_pair(c, columns, left, right, first, second)
+}
+
+// One category operand: 19, 20, 22, then the mapping.
+fn propagate_unary_categorical_nature(
+    c: Component,
+    data_type: u8,
+    columns: usize,
+    s: &[u8],
+    first: &mut [u8],
+    second: &mut [u8],
+) -> Derived
+    requires { ⌜ Lists (now s) × Ready columns (now first) (now second) × (hasRule c ≡ true) ⌝ }
+    ensures { λ r. ⌜ (derivedIn r (now (first .exit)) (now (second .exit)) ≡ inWriting narrow (listsAlone (narrow .categoryLimit) c data_type columns (natureIn narrow (now (s .entry))))) × Within r ⌝ }
+{
+    let x = s[form::NATURE_AT];
+    let sizes = base::sizes_at(s);
+    let k = lists_code(x, sizes.lists);
+    if k != 0 {
+        return Derived::Refused(k);
+    }
+    if x == form::BOOL_LISTS {
+        return Derived::Refused(22);
+    }
+    categories::lists_alone(c, columns, s, first, second)
+}
+
+pub fn propagate_binary_nature(
+    c: Component,
+    data_type: u8,
+    columns: usize,
+    left: &[u8],
+    right: &[u8],
+    first: &mut [u8],
+    second: &mut [u8],
+) -> Derived
+    requires { ⌜ Read (now left) × Read (now right) × Ready columns (now first) (now second) × Reached c data_type (now right) ⌝ }
+    ensures { λ r. ⌜ (derivedIn r (now (first .exit)) (now (second .exit)) ≡ inWriting narrow (binaryNature (narrow .categoryLimit) c data_type columns (natureIn narrow (now (left .entry))) (natureIn narrow (now (right .entry))))) × Within r ⌝ }
+{
+    let x = left[form::NATURE_AT];
+    let y = right[form::NATURE_AT];
+    if x == form::ABSENT_NATURE {
+        return nothing_stated();
+    }
+    if y == form::ABSENT_NATURE {
+        return nothing_stated();
+    }
+    if form::is_range(x) {
+        if form::is_range(y) {
+            if x != y {
+                return Derived::Refused(17);
+            }
+            return ranges::range_pair(
+                c,
+                data_type,
+                x == form::FLOAT_RANGE,
+                columns,
+                left,
+                right,
+                first,
+                second,
+            );
+        }
+        return nothing_stated();
+    }
+    if form::is_range(y) {
+        return nothing_stated();
+    }
+    propagate_binary_categorical_nature(c, data_type, columns, left, right, first, second)
+}
+
+// Abs and Negative.
+pub fn propagate_unary_nature(
+    c: Component,
+    data_type: u8,
+    columns: usize,
+    s: &[u8],
+    first: &mut [u8],
+    second: &mut [u8],
+) -> Derived
+    requires { ⌜ Read (now s) × Ready columns (now first) (now second) × (hasRule c ≡ true) ⌝ }
+    ensures { λ r. ⌜ (derivedIn r (now (first .exit)) (now (second .exit)) ≡ inWriting narrow (unaryNature (narrow .categoryLimit) c data_type columns (natureIn narrow (now (s .entry))))) × Within r ⌝ }
+{
+    let x = s[form::NATURE_AT];
+    if x == form::ABSENT_NATURE {
+        return nothing_stated();
+    }
+    if form::is_range(x) {
+        return ranges::range_pair(
+            c,
+            data_type,
+            x == form::FLOAT_RANGE,
+            columns,
+            s,
+            s,
+            first,
+            second,
+        );
+    }
+    propagate_unary_categorical_nature(c, data_type, columns, s, first, second)
+}
