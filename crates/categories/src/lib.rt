@@ -66,6 +66,7 @@ fn list_into(s: &[u8], j: usize, out: &mut [i64]) -> usize
     let sizes = base::sizes_at(s);
     let g = sizes.groups;
     let t = sizes.categories;
+    let mut hints = [0u8; utilities::HINTS];
     let mut n: usize = 0;
     let mut i: usize = 0;
     while i < t {
@@ -75,8 +76,9 @@ fn list_into(s: &[u8], j: usize, out: &mut [i64]) -> usize
         if wide(s[number]) != j {
             continue;
         }
+        let v = bytes::i64_at(s, at);
         // There is room for every category of a sheet.
-        let Noted::At(m) = utilities::note(out, n, bytes::i64_at(s, at)) else {
+        let Noted::At(m) = utilities::note_hinted(out, n, v, &mut hints) else {
             return n;
         };
         n = m;
@@ -125,6 +127,7 @@ fn product_into(
     requires { ⌜ (l ≤ length (now left)) × (r ≤ length (now right)) ⌝ }
     ensures { λ p. ⌜ Produces p (now (store .exit)) (product (ruleOf c) (take l (now (left .entry))) (take r (now (right .entry)))) ⌝ }
 {
+    let mut hints = [0u8; utilities::HINTS];
     let mut code: u32 = 0;
     let mut over = false;
     let mut n: usize = 0;
@@ -142,7 +145,7 @@ fn product_into(
             if over {
                 continue;
             }
-            let Noted::At(m) = utilities::note(store, n, v) else {
+            let Noted::At(m) = utilities::note_hinted(store, n, v, &mut hints) else {
                 over = true;
                 continue;
             };

@@ -59,7 +59,7 @@ module _ {values : List ℤ} {n : ℕ} {out₀ out : List ℤ} (b : Begins value
   pub begins-lacks : {v x : ℤ} {out′ : List ℤ} → v ≡ x → Lacks n v out out′ → has eqZ x values ≡ false
   begins-lacks read s = sym (ap₂ (has eqZ) read (b .start)) ∙ s .new
 
--- what `note` answered
+-- what `note_hinted` answered
 module _ (n : ℕ) (x : ℤ) (before after : List ℤ) {r : Noted} where
   pub notes-at : {m : ℕ} → r ≡ At m → Notes n x before after r → Begins (noted eqZ (take n before) x) m before after
   notes-at e h = subst (Notes n x before after) e h

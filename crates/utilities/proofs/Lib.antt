@@ -5,3 +5,4 @@ pub mod Members
 pub mod Built
 pub mod Repeated
 pub mod Begins
+pub mod Hints

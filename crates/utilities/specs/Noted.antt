@@ -2,9 +2,11 @@
 use mathlib.Core.Path.{_≡_}
 use mathlib.Core.Bool.{false}
 use mathlib.Core.List.{List}
-use Prim.Native.Nat.{ℕ}
+use Prim.Native.Nat.{ℕ, _%_}
 use lib.IntN.{ℤ}
-use lib.ListN.{length, take, drop}
+use lib.ListN.{length, take, drop, getD}
+use mir.Syntax.{w64}
+use mir.Val.{ofZ}
 use Rattle.numbers.specs.Kind.{eqZ}
 use Rattle.utilities.specs.Lists.{has, noted}
 use Rattle.utilities.specs.declared.Noted.{Noted}
@@ -22,7 +24,23 @@ pub record Lacks (n : ℕ) (x : ℤ) (before after : List ℤ) : Type 0 where
   pub full : n ≡ length before
   pub same : after ≡ before
 
--- `note`, by its reply
+-- `note_hinted`, by its reply
 abbrev pub Notes : ℕ → ℤ → List ℤ → List ℤ → Noted → Type 0
 Notes n x before after (At m) = Begins (noted eqZ (take n before) x) m before after
 Notes n x before after Full = Lacks n x before after
+
+-- ---- hints
+
+-- where the hint of a value stands: at its low byte
+abbrev pub hintAt : ℤ → ℕ
+hintAt x = ofZ w64 x % 256
+
+-- a hint of 0 tells that none of the values has its low byte
+pub record Hinting (hints : List ℕ) (values : List ℤ) : Type 0 where
+  pub size : length hints ≡ 256
+  pub new : (x : ℤ) → getD hints (hintAt x) 0 ≡ 0 → has eqZ x values ≡ false
+
+-- how many values there are after `note_hinted`
+abbrev pub held : ℕ → Noted → ℕ
+held n (At m) = m
+held n Full = n

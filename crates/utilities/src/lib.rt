@@ -4,7 +4,7 @@ ghost use Prim.Native.Nat.{_≤_, _<_};
 ghost use lib.ListN.{length, take};
 ghost use Rattle.numbers.specs.Kind.{eqZ};
 ghost use Rattle.utilities.specs.Lists.{has, noted, firsts};
-ghost use Rattle.utilities.specs.Noted.{Begins, Notes};
+ghost use Rattle.utilities.specs.Noted.{Begins, Notes, Hinting, hintAt, held};
 
 // Whether x is among the first n values.
 pub fn has(s: &[i64], n: usize, x: i64) -> bool
@@ -21,7 +21,7 @@ pub fn has(s: &[i64], n: usize, x: i64) -> bool
     false
 }
 
-// `note` for a caller who knows that there is room, and so has no refusal to answer. Returns how many values there are then.
+// A value goes behind the first n, unless it is among them. Returns how many values there are then.
 fn append_new(out: &mut [i64], n: usize, x: i64) -> usize
     requires { ⌜ n < length (now out) ⌝ }
     ensures { λ r. ⌜ Begins (noted eqZ (take n (now (out .entry))) x) r (now (out .entry)) (now (out .exit)) ⌝ }
@@ -41,16 +41,62 @@ pub enum Noted {
     Full,
 }
 
-// A value goes behind the first n, unless it is among them.
-pub fn note(out: &mut [i64], n: usize, x: i64) -> Noted
-    requires { ⌜ n ≤ length (now out) ⌝ }
-    ensures { λ r. ⌜ Notes n x (now (out .entry)) (now (out .exit)) r ⌝ }
+// ---- hints
+
+// How many hints there are: one for each low byte of a value. A hint is 0 as long as no value with its low byte was noted.
+pub const HINTS: usize = 256;
+
+// Where the hint of x stands.
+fn hint_at(x: i64) -> usize
+    ensures { λ r. ⌜ r ≡ hintAt x ⌝ }
 {
-    if n < out.len() {
-        return Noted::At(append_new(out, n, x));
+    (bytes::complement(x) % 256) as usize
+}
+
+// That a value was noted behind n others. Where n is too great for a byte the hint is a wrong one, which costs time alone.
+fn hint_of(n: usize) -> u8
+    ensures { λ r. ⌜ 0 < r ⌝ }
+{
+    ((n % 255) as u8) + 1
+}
+
+// A byte as a size: a call of it asks nothing of the byte.
+fn wide(x: u8) -> usize
+    ensures { λ r. ⌜ r ≡ x ⌝ }
+{
+    x as usize
+}
+
+// `has`: a hint of 0 tells that x is new, another where it may stand.
+fn has_hinted(s: &[i64], n: usize, x: i64, hints: &[u8], at: usize) -> bool
+    requires { ⌜ (n ≤ length (now s)) × Hinting (now hints) (take n (now s)) × (at ≡ hintAt x) ⌝ }
+    ensures { λ r. ⌜ r ≡ has eqZ x (take n (now (s .entry))) ⌝ }
+{
+    let hint = wide(hints[at]);
+    if hint == 0 {
+        return false;
     }
-    if has(out, n, x) {
+    if hint <= n {
+        if s[hint - 1] == x {
+            return true;
+        }
+    }
+    has(s, n, x)
+}
+
+// A value goes behind the first n, unless it is among them. The hints go on telling which values were noted.
+pub fn note_hinted(out: &mut [i64], n: usize, x: i64, hints: &mut [u8]) -> Noted
+    requires { ⌜ (n ≤ length (now out)) × Hinting (now hints) (take n (now out)) ⌝ }
+    ensures { λ r. ⌜ Notes n x (now (out .entry)) (now (out .exit)) r × Hinting (now (hints .exit)) (take (held n r) (now (out .exit))) ⌝ }
+{
+    let at = hint_at(x);
+    if has_hinted(out, n, x, hints, at) {
         return Noted::At(n);
+    }
+    if n < out.len() {
+        hints[at] = hint_of(n);
+        out[n] = x;
+        return Noted::At(n + 1);
     }
     Noted::Full
 }

@@ -15,7 +15,9 @@ use Rattle.bytes.specs.Le.{leAt}
 use Rattle.numbers.specs.Kind.{eqZ}
 use Rattle.utilities.specs.Lists.{firsts}
 use Rattle.utilities.proofs.Firsts.{noted-length}
+use Rattle.utilities.specs.Noted.{Hinting}
 use Rattle.utilities.proofs.Begins.{begins-room, notes-at, notes-full}
+use Rattle.utilities.proofs.Hints.{hinting-none, hinting-at}
 use Rattle.base.specs.Form.{narrow, listCount}
 use Rattle.base.specs.Decode.{asWhole, listNumber, listAt, lists}
 use Rattle.base.specs.Sized.{ListsFit}
@@ -25,15 +27,16 @@ use Rattle.categories.proofs.list_into.Statement.{statement}
 use Rattle.categories.proofs.list_into.Tie as tie
 
 abbrev Inv-loop : tie.InvT-loop
-Inv-loop s j out₀ g t n₀ i₀ out n i =
+Inv-loop s j out₀ g t hints₀ n₀ i₀ out hints n i =
     ListsFit narrow s g (listCount narrow s) t
     × (i ≤ t)
     × (n ≤ i)
     × (length out ≡ length out₀)
+    × Hinting hints (take n out)
     × Taking n out₀ out (listAt narrow s asWhole g t j (t - i) i) (firsts eqZ (getD (lists narrow s asWhole) j []))
 
 abbrev μ-loop : tie.MeasureT-loop
-μ-loop s j out₀ g t n₀ i₀ out n i = t - i
+μ-loop s j out₀ g t hints₀ n₀ i₀ out hints n i = t - i
 
 sizes-at-requires : tie.Need-sizes-at-requires Inv-loop μ-loop
 sizes-at-requires c κs = listed-long (c .before .pre .0)
@@ -43,7 +46,7 @@ loop-holds c =
     let s = c .before .before in
     let fit = listed-fits (s .pre .0) (c .sizes-at .ensures) in
     let from = lists-from narrow (now (s .args .s)) asWhole (s .args .j) fit (s .pre .1) in
-    (fit, search needs, search needs, refl, taking-start (now (s .args .out)) (ap (firsts eqZ) from))
+    (fit, search needs, search needs, refl, hinting-none _ refl, taking-start (now (s .args .out)) (ap (firsts eqZ) from))
 
 number-at-requires : tie.Need-number-at-requires Inv-loop μ-loop
 number-at-requires c κs = let f = c .before .loop .inv .0 in (f .groupsWithin, omega arith)
@@ -63,35 +66,38 @@ loop-again c =
     let g = p .before .before .before .sizes-at .result .groups in
     let t = p .before .before .before .sizes-at .result .categories in
     let other : listNumber narrow s g (l .i) ≡ a .j → ⊥ = λ e. c .if1 .taken (c .before .wide .ensures ∙ number-is s g (l .i) (p .number-at .ensures) ∙ e) in
-    (l .inv .0, search needs, omega arith, l .inv .3, taking-same (l .inv .4) (list-skips narrow s asWhole g t (a .j) (l .i) (p .before .loop-test .taken) other))
+    (l .inv .0, search needs, omega arith, l .inv .3, l .inv .4, taking-same (l .inv .5) (list-skips narrow s asWhole g t (a .j) (l .i) (p .before .loop-test .taken) other))
 
 i64-at-requires : tie.Need-i64-at-requires Inv-loop μ-loop
 i64-at-requires c κs =
-    let v = c .before .before .before .before in
+    let v = c .before .before .before in
     let f = v .before .before .before .loop .inv .0 in
     omega (arith, f .room, v .value-at .ensures, v .before .before .loop-test .taken)
 
-note-requires : tie.Need-note-requires Inv-loop μ-loop
-note-requires c κs = begins-room (c .before .before .before .before .before .before .before .before .loop .inv .4 .begins)
+slice-aggregate-note-hinted : tie.Need-slice-aggregate-note-hinted Inv-loop μ-loop
+slice-aggregate-note-hinted c = sym (c .before .before .before .before .before .before .before .before .before .loop .inv .4 .size)
+
+note-hinted-requires : tie.Need-note-hinted-requires Inv-loop μ-loop
+note-hinted-requires c κs = let l = c .before .before .before .before .before .before .before .before .before .loop in (begins-room (l .inv .5 .begins), l .inv .4)
 
 same-length : tie.Need-same-length Inv-loop μ-loop
 same-length c = search needs
 
 returns : tie.Need-returns Inv-loop μ-loop
 returns c =
-    let n = c .before .before .before in
-    let p = n .before .before .before .before .before .before .before in
+    let n = c .before .before .before .before in
+    let p = n .before .before .before .before .before .before .before .before in
     let l = p .before .before .loop in
     let b = p .before .before .before .before .before in
-    let v = toZ w64 (ofZ w64 (n .before .i64-at .result)) in
-    let lacks = notes-full (l .n) v (l .out) (n .note .last .0) (c .enum-told .given .1) (n .note .ensures) in
+    let v = toZ w64 (ofZ w64 (n .before .before .before .i64-at .result)) in
+    let lacks = notes-full (l .n) v (l .out) (n .note-hinted .last .0) (c .enum-told .given .1) (n .note-hinted .ensures .0) in
     absurd (omega (arith, lacks .full, l .inv .0 .categoriesWithin, l .inv .2, l .inv .3, p .before .loop-test .taken, b .pre .2))
 
 loop-again-2 : tie.Need-loop-again-2 Inv-loop μ-loop
 loop-again-2 c =
     let m = c .before in
-    let n = m .before .before .before in
-    let q = n .before .before .before .before .before .before in
+    let n = m .before .before .before .before in
+    let q = n .before .before .before .before .before .before .before in
     let p = q .before in
     let l = p .before .before .loop in
     let b = p .before .before .before .before .before in
@@ -99,15 +105,15 @@ loop-again-2 c =
     let s = now (a .s) in
     let g = p .before .before .before .sizes-at .result .groups in
     let t = p .before .before .before .sizes-at .result .categories in
-    let z = n .before .i64-at .result in
+    let z = n .before .before .before .i64-at .result in
     let v = toZ w64 (ofZ w64 z) in
     let back : v ≡ z = search needs in
-    let read = back ∙ n .before .i64-at .ensures ∙ ap (λ (k : ℕ). asWhole (leAt 8 k s)) (q .value-at .ensures) in
-    let begins = notes-at (l .n) v (l .out) (n .note .last .0) (m .m .given .1) (n .note .ensures) in
-    let own = sym (number-is s g (l .i) (p .number-at .ensures)) ∙ sym (n .before .before .before .before .wide .ensures) ∙ n .before .before .before .if1 .left in
+    let read = back ∙ n .before .before .before .i64-at .ensures ∙ ap (λ (k : ℕ). asWhole (leAt 8 k s)) (q .value-at .ensures) in
+    let begins = notes-at (l .n) v (l .out) (n .note-hinted .last .0) (m .m .given .1) (n .note-hinted .ensures .0) in
+    let own = sym (number-is s g (l .i) (p .number-at .ensures)) ∙ sym (n .before .before .before .before .before .wide .ensures) ∙ n .before .before .before .before .if1 .left in
     let has = list-has narrow s asWhole g t (a .j) (l .i) (p .before .loop-test .taken) own in
-    let size : m .m .given .0 .0 ≤ l .i + 1 = omega (arith, begins .count, noted-length eqZ (take (l .n) (l .out)) v, length-take-le (l .n) (l .out) (begins-room (l .inv .4 .begins)), l .inv .2) in
-    (l .inv .0, omega (arith, p .before .loop-test .taken), size, n .note .kept .0 ∙ l .inv .3, taking-note (l .inv .4) has read begins)
+    let size : m .m .given .0 .0 ≤ l .i + 1 = omega (arith, begins .count, noted-length eqZ (take (l .n) (l .out)) v, length-take-le (l .n) (l .out) (begins-room (l .inv .5 .begins)), l .inv .2) in
+    (l .inv .0, omega (arith, p .before .loop-test .taken), size, n .note-hinted .kept .0 ∙ l .inv .3, hinting-at (l .n) (n .note-hinted .last .0) (m .m .given .1) (n .note-hinted .ensures .1), taking-note (l .inv .5) has read begins)
 
 same-length-2 : tie.Need-same-length-2 Inv-loop μ-loop
 same-length-2 c = search needs
@@ -118,7 +124,7 @@ returns-2 c =
     let a = c .before .before .before .before .args in
     let g = c .before .before .sizes-at .result .groups in
     let t = c .before .before .sizes-at .result .categories in
-    taking-done (l .inv .4) (list-end narrow (now (a .s)) asWhole g t (a .j) (l .i) (c .loop-test .left))
+    taking-done (l .inv .5) (list-end narrow (now (a .s)) asWhole g t (a .j) (l .i) (c .loop-test .left))
 
 pub list-into-spec : {M : Type 1} → statement M
 list-into-spec =
@@ -136,7 +142,8 @@ list-into-spec =
     (λ c. search needs)
     loop-again
     i64-at-requires
-    note-requires
+    slice-aggregate-note-hinted
+    note-hinted-requires
     (λ c. search needs)
     (λ c. search needs)
     same-length

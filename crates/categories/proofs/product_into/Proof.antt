@@ -18,7 +18,9 @@ use Rattle.numbers.specs.Result.{Result, ok, refused}
 use Rattle.numbers.specs.Kind.{fitting, eqZ}
 use Rattle.utilities.specs.Lists.{noted}
 use Rattle.numbers.specs.declared.Checked.{Checked}
+use Rattle.utilities.specs.Noted.{Hinting}
 use Rattle.utilities.proofs.Begins.{notes-at, notes-full}
+use Rattle.utilities.proofs.Hints.{hinting-none, hinting-at, hinting-full}
 use Rattle.categories.specs.Categories.{product, ruleOf}
 use Rattle.categories.specs.Answers.{Produces}
 use Rattle.categories.specs.declared.Product.the-variants as P
@@ -27,31 +29,33 @@ use Rattle.categories.proofs.product_into.Statement.{statement}
 use Rattle.categories.proofs.product_into.Tie as tie
 
 abbrev Inv-loop : tie.InvT-loop
-Inv-loop c left l right r store₀ code₀ over₀ n₀ i a j₀ store code over n j =
+Inv-loop c left l right r store₀ hints₀ code₀ over₀ n₀ i a j₀ store hints code over n j =
     (j ≤ r)
     × (length store ≡ length store₀)
     × (code ≡ 0)
     × Storing over n store (inRow (ruleOf c) (toZ w64 a) (take l left) (take r right) i j) (product (ruleOf c) (take l left) (take r right))
+    × Hinting hints (take n store)
 
 abbrev μ-loop : tie.MeasureT-loop
-μ-loop c left l right r store₀ code₀ over₀ n₀ i a j₀ store code over n j = r - j
+μ-loop c left l right r store₀ hints₀ code₀ over₀ n₀ i a j₀ store hints code over n j = r - j
 
 abbrev Inv-pairs : tie.InvT-pairs
-Inv-pairs c left l right r store₀ code₀ over₀ n₀ i₀ store code over n i =
+Inv-pairs c left l right r store₀ hints₀ code₀ over₀ n₀ i₀ store hints code over n i =
     (i ≤ l)
     × (length store ≡ length store₀)
     × (code ≡ 0)
     × Storing over n store (inPairs (ruleOf c) (take l left) (take r right) i) (product (ruleOf c) (take l left) (take r right))
+    × Hinting hints (take n store)
 
 abbrev μ-pairs : tie.MeasureT-pairs
-μ-pairs c left l right r store₀ code₀ over₀ n₀ i₀ store code over n i = l - i
+μ-pairs c left l right r store₀ hints₀ code₀ over₀ n₀ i₀ store hints code over n i = l - i
 
 pairs-holds : tie.Need-pairs-holds Inv-loop μ-loop Inv-pairs μ-pairs
 pairs-holds c =
     let a = c .args in
     let us = take (a .l) (now (a .left)) in
     let bs = take (a .r) (now (a .right)) in
-    (search needs, refl, refl, storing-start (now (a .store)) (inPairs (ruleOf (a .c)) us bs 0) (product-is (ruleOf (a .c)) us bs))
+    (search needs, refl, refl, storing-start (now (a .store)) (inPairs (ruleOf (a .c)) us bs 0) (product-is (ruleOf (a .c)) us bs), hinting-none _ refl)
 
 loop-holds : tie.Need-loop-holds Inv-loop μ-loop Inv-pairs μ-pairs
 loop-holds c =
@@ -69,6 +73,7 @@ loop-holds c =
       refl,
       o .inv .2,
       storing-same (o .inv .3) (inRow (ruleOf (a .c)) x us bs (o .i + 1) 0) (λ seen. row-start (ruleOf (a .c)) us bs (o .i) seen e next),
+      o .inv .4,
     )
 
 pairs-again : tie.Need-pairs-again Inv-loop μ-loop Inv-pairs μ-pairs
@@ -85,6 +90,7 @@ pairs-again c =
       l .inv .1 ∙ o .inv .1,
       l .inv .2,
       storing-same (l .inv .3) (inPairs (ruleOf (a .c)) us bs (o .i + 1)) (λ seen. next-row (ruleOf (a .c)) x us bs (o .i + 1) (l .j) seen end),
+      l .inv .4,
     )
 
 -- a pair's result is what `category` answered of what the code reads of the two values
@@ -135,35 +141,38 @@ loop-again c =
     let k = c .before in
     let l = k .before .before .before .before .before .before .loop in
     let t = turned k in
-    (search needs, l .inv .1, l .inv .2, storing-over (l .inv .3) _ (t .0) (t .1) (c .if1 .taken))
+    (search needs, l .inv .1, l .inv .2, storing-over (l .inv .3) _ (t .0) (t .1) (c .if1 .taken), l .inv .4)
 
-note-requires : tie.Need-note-requires Inv-loop μ-loop Inv-pairs μ-pairs
-note-requires c κs = storing-room (c .before .before .before .before .before .before .before .before .loop .inv .3) (c .before .if1 .left)
+slice-aggregate-note-hinted : tie.Need-slice-aggregate-note-hinted Inv-loop μ-loop Inv-pairs μ-pairs
+slice-aggregate-note-hinted c = sym (c .before .before .before .before .before .before .before .before .before .loop .inv .4 .size)
+
+note-hinted-requires : tie.Need-note-hinted-requires Inv-loop μ-loop Inv-pairs μ-pairs
+note-hinted-requires c κs = let l = c .before .before .before .before .before .before .before .before .before .loop in (storing-room (l .inv .3) (c .before .before .if1 .left), l .inv .4)
 
 loop-again-2 : tie.Need-loop-again-2 Inv-loop μ-loop Inv-pairs μ-pairs
 unfolding Turned
 loop-again-2 c =
-    let n = c .before .before .before in
-    let i = n .before .before in
+    let n = c .before .before .before .before in
+    let i = n .before .before .before in
     let k = i .before in
     let l = k .before .before .before .before .before .before .loop in
     let t = turned k in
     let v = k .before .v .given .0 .0 in
-    let lacks = notes-full (l .n) (toZ w64 (ofZ w64 v)) (l .store) (n .note .last .0) (c .enum-told2 .given .1) (n .note .ensures) in
-    (search needs, ap length (lacks .same) ∙ l .inv .1, l .inv .2, storing-full (l .inv .3) _ (t .0) (t .1) (i .if1 .left) lacks)
+    let lacks = notes-full (l .n) (toZ w64 (ofZ w64 v)) (l .store) (n .note-hinted .last .0) (c .enum-told2 .given .1) (n .note-hinted .ensures .0) in
+    (search needs, ap length (lacks .same) ∙ l .inv .1, l .inv .2, storing-full (l .inv .3) _ (t .0) (t .1) (i .if1 .left) lacks, hinting-full (l .n) (n .note-hinted .last .0) (c .enum-told2 .given .1) (n .note-hinted .ensures .1))
 
 loop-again-3 : tie.Need-loop-again-3 Inv-loop μ-loop Inv-pairs μ-pairs
 unfolding Turned
 loop-again-3 c =
     let m = c .before in
-    let n = m .before .before .before in
-    let i = n .before .before in
+    let n = m .before .before .before .before in
+    let i = n .before .before .before in
     let k = i .before in
     let l = k .before .before .before .before .before .before .loop in
     let t = turned k in
     let v = k .before .v .given .0 .0 in
-    let begins = notes-at (l .n) (toZ w64 (ofZ w64 v)) (l .store) (n .note .last .0) (m .m .given .1) (n .note .ensures) in
-    (search needs, n .note .kept .0 ∙ l .inv .1, l .inv .2, storing-noted (l .inv .3) _ (t .0) (t .1) (i .if1 .left) begins)
+    let begins = notes-at (l .n) (toZ w64 (ofZ w64 v)) (l .store) (n .note-hinted .last .0) (m .m .given .1) (n .note-hinted .ensures .0) in
+    (search needs, n .note-hinted .kept .0 ∙ l .inv .1, l .inv .2, storing-noted (l .inv .3) _ (t .0) (t .1) (i .if1 .left) begins, hinting-at (l .n) (n .note-hinted .last .0) (m .m .given .1) (n .note-hinted .ensures .1))
 
 Whole : tie.Left-pairs Inv-loop μ-loop Inv-pairs μ-pairs → Result (List ℤ)
 Whole c = let a = c .before .before .args in product (ruleOf (a .c)) (take (a .l) (now (a .left))) (take (a .r) (now (a .right)))
@@ -260,7 +269,8 @@ product-into-spec =
     (λ c. search needs)
     (λ c. search needs)
     loop-again
-    note-requires
+    slice-aggregate-note-hinted
+    note-hinted-requires
     (λ c. search needs)
     (λ c. search needs)
     (λ c. search needs)
