@@ -1,6 +1,6 @@
 // The stored form of a sheet: limits, places and numbers, as specs/Form.antt has them. The code has them from here alone.
 ghost use mathlib.Core.Path.{_≡_};
-ghost use Prim.Native.Nat.{_≤_};
+ghost use Prim.Native.Nat.{_^_, _≤_, _<_};
 ghost use Rattle.base.specs.Form.{narrow, isRangeNature, partitionAt, keyAt, lowerAt, upperAt, numberAt, valueAt, calledFor};
 
 // Limits of the sizes and of the columns.
@@ -167,9 +167,9 @@ pub fn value_at(g: usize, t: usize, i: usize) -> usize
     ARRAYS_AT + GROUP_WIDTH * g + NUMBER_WIDTH * t + VALUE_WIDTH * i
 }
 
-// The length that a nature and sizes call for.
+// The length that a nature and sizes of 16 bits call for.
 pub fn called_for(nature: u8, g: usize, n: usize, t: usize) -> usize
-    requires { ⌜ (g ≤ narrow .groupLimit) × (n ≤ narrow .listLimit) × (t ≤ narrow .categoryLimit) ⌝ }
+    requires { ⌜ (g < 2 ^ 16) × (n < 2 ^ 16) × (t < 2 ^ 16) ⌝ }
     ensures { λ r. ⌜ r ≡ calledFor narrow nature g n t ⌝ }
 {
     if is_range(nature) {

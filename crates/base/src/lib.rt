@@ -4,7 +4,7 @@ ghost use Prim.Native.Nat.{_+_, _≤_, _<_};
 ghost use lib.ListN.{length};
 ghost use Rattle.bytes.specs.Le.{leAt};
 ghost use Rattle.bytes.specs.Wrote.{Wrote};
-ghost use Rattle.base.specs.Form.{narrow, place, nodeAt};
+ghost use Rattle.base.specs.Form.{narrow, place, nodeAt, lengthCalledFor};
 ghost use Rattle.base.specs.Decode.{asWhole, asBits, optionAt, fieldsIn};
 ghost use Rattle.base.specs.Checks.{read};
 ghost use Rattle.base.specs.Components.{numberOf, componentOf, isUnary};
@@ -198,6 +198,22 @@ pub fn sizes_at(s: &[u8]) -> Sizes
         lists: lists as usize,
         categories: categories as usize,
     }
+}
+
+// The length that a sheet's sizes call for, whether or not they keep to their limits.
+pub fn length_called_for(s: &[u8]) -> usize
+    requires { ⌜ narrow .arraysAt ≤ length (now s) ⌝ }
+    ensures { λ r. ⌜ r ≡ lengthCalledFor narrow (now (s .entry)) ⌝ }
+{
+    let groups = bytes::u16_at(s, form::GROUPS_AT);
+    let lists = bytes::u16_at(s, form::LISTS_AT);
+    let categories = bytes::u16_at(s, form::CATEGORIES_AT);
+    form::called_for(
+        s[form::NATURE_AT],
+        groups as usize,
+        lists as usize,
+        categories as usize,
+    )
 }
 
 // The signed 64 bits at `at`, where the byte at `mark` is not 0.

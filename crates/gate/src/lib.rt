@@ -1,21 +1,20 @@
-// The single call that Rust and C see: the derived sheet in a lent buffer, and a reply of a code and a length.
+// The two calls that Rust and C see, each with a reply of a code and a value: the single call derives a sheet in a lent buffer, the plan call one for
+// each step in a lent work buffer.
 use base::Component;
 use base::Numbered;
 use base::form;
 use bytes::Put;
+use plan::Walked;
 ghost use mathlib.Core.Path.{_≡_};
-ghost use Prim.Native.Nat.{_^_, _<_};
-ghost use lib.ListN.{length};
+ghost use Prim.Native.Nat.{_%_, _^_, _<_};
 ghost use Rattle.base.specs.Form.{narrow};
-ghost use Rattle.transforms.specs.Single.{packed, delivery, single};
-ghost use Rattle.transforms.specs.Code.{stepIn, Held};
+ghost use Rattle.transforms.specs.Single.{packed, single};
+ghost use Rattle.plan.specs.Walk as Walk;
+ghost use Rattle.plan.specs.Demand.{Contained};
 ghost use Rattle.gate.specs.Reply.{replied};
 
 // 2: the component is not 1 to 9.
 const NO_COMPONENT: u32 = 2;
-
-// 27: the sheet does not fit the lent buffer.
-const NO_ROOM: u32 = 27;
 
 // What the value of a reply is multiplied by.
 const VALUE_UNIT: u64 = 4294967296;
@@ -26,22 +25,6 @@ fn reply(code: u32, value: usize) -> u64
     ensures { λ r. ⌜ r ≡ packed code value ⌝ }
 {
     (code as u64) + VALUE_UNIT * (value as u64)
-}
-
-// Delivers what a step left at the start of `scratch`.
-fn answer(put: Put, scratch: &[u8], out: &mut [u8]) -> u64
-    requires { ⌜ Held put (length (now scratch)) × (length (now scratch) < 2 ^ 32) ⌝ }
-    ensures { λ r. ⌜ replied r (now (out .exit)) ≡ delivery (stepIn put (now (scratch .entry))) (now (out .entry)) ⌝ }
-{
-    match put {
-        Put::Refused(k) => reply(k, 0),
-        Put::At(n) => {
-            if bytes::deliver(out, scratch, n) {
-                return reply(0, n);
-            }
-            reply(NO_ROOM, 0)
-        }
-    }
 }
 
 // The step is taken in `scratch`, so that a refusal leaves every byte of `out` as it was.
@@ -61,5 +44,22 @@ pub extern "C" fn propagate_property(
     };
     let mut scratch = [0u8; form::LONGEST];
     let put = transforms::step(c, node, left, right, &mut scratch);
-    answer(put, &scratch, out)
+    let delivered = transforms::deliver_sheet(put, &scratch, out);
+    match delivered {
+        Put::At(n) => reply(0, n),
+        Put::Refused(k) => reply(k, 0),
+    }
+}
+
+// `contained` is demand 3, of the work buffer as it was handed in and as it is left.
+#[no_mangle]
+pub extern "C" fn propagate_properties(plan: &[u8], work: &mut [u8]) -> u64
+    ensures bytes { λ r. ⌜ replied r (now (work .exit)) ≡ Walk.plan narrow (now (plan .entry)) (now (work .entry)) ⌝ }
+    ensures contained { λ r. ⌜ (r % 2 ^ 32 ≡ 0 → Contained narrow (now (plan .entry)) (now (work .entry)) (now (work .exit))) ⌝ }
+{
+    let answer = plan::propagate_properties(plan, work);
+    match answer {
+        Walked::Accepted(nodes) => reply(0, nodes),
+        Walked::Refused(k, node) => reply(k, node),
+    }
 }

@@ -36,7 +36,7 @@ use Rattle.plan.specs.Good.{Fitting, Good, stepOf}
 use Rattle.plan.proofs.Nodes.{columns-are, good-made}
 use Rattle.plan.proofs.Steps.{step-good}
 use Rattle.plan.proofs.Slots.{sheetAt}
-use Rattle.plan.proofs.Walked.{Accepted, plan-made}
+use Rattle.plan.proofs.Accepted.{Accepted, plan-made}
 
 -- ---- one node
 

@@ -21,6 +21,10 @@ pub mod Fitted
 pub mod Made
 pub mod Decoded
 pub mod Derived
+pub mod FormLaws
 pub mod Slots
-pub mod Walked
+pub mod Accepted
 pub mod Contained
+pub mod Parts
+pub mod Taken
+pub mod Shown

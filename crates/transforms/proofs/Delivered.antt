@@ -3,6 +3,7 @@
 --     unary-refused, unary-nature-refused, unary-written      Abs and Negative
 --     pair-refused, pair-nature-refused, pair-written         Add, Subtract, Multiply and Divide
 --     copy-refused, copy-nature-refused, copy-last-refused, copy-written    Modulo, Log and Power
+--     refused-code                                            a code that is not 0 is the refusal's
 --     step-left-refused, step-right-refused                   a sheet that 3 to 5 refuse
 --     step-alone, step-paired, step-copied                    each group's answer is the step
 -- Assumes nothing.
@@ -289,7 +290,7 @@ module _
 pub was-read : (s : List ℕ) {k : ℕ} → k ≡ codeOf (read narrow s) → k ≡ 0 → Read s
 was-read s code e = let p = passed-all narrow s (sym code ∙ e) in record { sizes = p .sizes; fields = p .fields }
 
-refused-code : {X : Type 0} (r : Result X) {k : ℕ} → k ≡ codeOf r → (k ≡ 0 → ⊥) → r ≡ refused k
+pub refused-code : {X : Type 0} (r : Result X) {k : ℕ} → k ≡ codeOf r → (k ≡ 0 → ⊥) → r ≡ refused k
 refused-code (ok x) {k} e h = absurd (h e)
 refused-code (refused m) e h = ap refused (sym e)
 

@@ -1,5 +1,9 @@
 -- What the proofs of several functions cite.
 pub mod Passing
+pub mod Clear
+pub mod Never
+pub mod Unreached
 pub mod Delivered
 pub mod Sorted
 pub mod Listing
+pub mod Deliveries

@@ -32,13 +32,13 @@ use Rattle.transforms.specs.Code.{ruledByNumber, Reached, hasRule, isPai
 
 -- ---- checks in a row, none of which fails
 
-abbrev Passing : List Check → Type 0
+abbrev pub Passing : List Check → Type 0
 Passing [] = Unit {0}
 Passing (c ∷ cs) = (c .fails ≡ false) × Passing cs
 
-both : (t r : Bool) → cond t r false ≡ true → (t ≡ true) × (r ≡ true)
-both true r e = (refl, e)
-both false r e = absurd (subst T (sym e) tt)
+pub both-hold : (t r : Bool) → cond t r false ≡ true → (t ≡ true) × (r ≡ true)
+both-hold true r e = (refl, e)
+both-hold false r e = absurd (subst T (sym e) tt)
 
 none-fails : (t : Bool) (k m : ℕ) → eqb k 0 ≡ false → cond t k m ≡ 0 → (t ≡ false) × (m ≡ 0)
 none-fails true k m h e = absurd (subst T (sym (eq-eqb k 0 e) ∙ h) tt)
@@ -48,11 +48,11 @@ all-pass : (cs : List Check) → Numbered cs → firstFailing cs ≡ 0 → Passi
 unfolding firstFailing every
 all-pass [] z e = tt
 all-pass (c ∷ cs) z e =
-    let b = both (not (eqb (c .number) 0)) (every (λ c. not (eqb (c .number) 0)) cs) (z .all) in
+    let b = both-hold (not (eqb (c .number) 0)) (every (λ c. not (eqb (c .number) 0)) cs) (z .all) in
     let h = none-fails (c .fails) (c .number) (firstFailing cs) (not-true (eqb (c .number) 0) (b .0)) e in
     (h .0, all-pass cs (record { all = b .1 }) (h .1))
 
-pass-parts : (cs ds : List Check) → Passing (cs ++ ds) → Passing cs × Passing ds
+pub pass-parts : (cs ds : List Check) → Passing (cs ++ ds) → Passing cs × Passing ds
 pass-parts [] ds p = (tt, p)
 pass-parts (c ∷ cs) ds p = let r = pass-parts cs ds (p .1) in ((p .0, r .0), r .1)
 
@@ -123,7 +123,7 @@ whole-is-range s e = let k = byteAt narrow natureAt s in go (eqb k 1) (eqb k 2) 
     go false false false false false whole h e = absurd (subst T (sym e) tt)
 
 -- the checks 14 to 16 of Modulo and Power; `cs` and `ds` are those behind 15, and those of two Float operands
-whole-types :
+pub whole-types :
     (a b : ℕ) (w : Bool) (cs ds : List Check)
     → Passing (cond (eqb a intType && eqb b intType) (check 15 (not w) ∷ cs) (cond (eqb a floatType && eqb b floatType) ds (check 14 true ∷ [])))
     → (not (eqb a intType) ≡ true) ⊎ (w ≡ true)

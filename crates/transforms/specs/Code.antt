@@ -16,6 +16,7 @@ use Rattle.base.specs.declared.Component.the-variants as C
 use Rattle.writer.specs.Written.{firstRoom, secondRoom}
 use Rattle.writer.specs.declared.Derived.{Derived}
 use Rattle.writer.specs.declared.Derived.the-variants as D
+use Rattle.transforms.specs.Single.{Outcome, outcome}
 
 -- a sheet that passed 3 and 4
 pub record Read (s : List ℕ) : Type 0 where
@@ -54,6 +55,11 @@ stepIn (U.Refused k) d = refused k
 abbrev pub Held : Put → ℕ → Type 0
 Held (U.At n) size = n ≤ size
 Held (U.Refused k) size = Unit {0}
+
+-- 01's number and length for an answer, and the lent bytes afterwards
+abbrev pub given : Put → List ℕ → Outcome
+given (U.At n) bytes = outcome 0 n bytes
+given (U.Refused k) bytes = outcome k 0 bytes
 
 -- categories: neither absent nor a range
 pub record Lists (s : List ℕ) : Type 0 where

@@ -4,3 +4,4 @@ pub mod Single
 pub mod Code
 pub mod Computing
 pub mod Shelf
+pub mod Unreached

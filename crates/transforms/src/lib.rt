@@ -19,10 +19,13 @@ ghost use Rattle.base.specs.Encode.{encode};
 ghost use Rattle.base.specs.Components.{isUnary};
 ghost use Rattle.shape.specs.Fields.{numbered};
 ghost use Rattle.transforms.specs.Derive.{deriveUnary, derivePair, derive};
-ghost use Rattle.transforms.specs.Single.{step};
-ghost use Rattle.transforms.specs.Code.{Read, isPair, isCopy, stepIn, Held, refusalOf};
+ghost use Rattle.transforms.specs.Single.{step, delivery};
+ghost use Rattle.transforms.specs.Code.{Read, isPair, isCopy, stepIn, Held, given, refusalOf};
 
 mod natures;
+
+// 27: the sheet does not fit the lent buffer.
+const NO_ROOM: u32 = 27;
 
 // How long the two buffers of a derived nature are.
 const FIRST_ROOM: usize = form::END_WIDTH * form::LIST_LIMIT;
@@ -184,17 +187,8 @@ fn step_copy(c: Component, left: &[u8], right: &[u8], out: &mut [u8]) -> Put
         return Put::Refused(m);
     }
     let h = shape::copy_head(l, r);
-    Put::At(put_pair(
-        out,
-        p,
-        &first,
-        &second,
-        h,
-        base::node_at(left),
-        left,
-        right,
-        l.releasable,
-    ))
+    let node = base::node_at(left);
+    Put::At(put_pair(out, p, &first, &second, h, node, left, right, l.releasable))
 }
 
 // The derived sheet at the start of a buffer that holds the longest, or the refusal.
@@ -217,4 +211,20 @@ pub fn step(c: Component, node: u32, left: &[u8], right: &[u8], out: &mut [u8]) 
         return step_copy(c, left, right, out);
     }
     step_pair(c, node, left, right, out)
+}
+
+// Delivers what a step left at the start of `scratch`, or refuses with 27. A refusal leaves every byte of `out` as it was.
+pub fn deliver_sheet(put: Put, scratch: &[u8], out: &mut [u8]) -> Put
+    requires { ⌜ Held put (length (now scratch)) ⌝ }
+    ensures { λ r. ⌜ (given r (now (out .exit)) ≡ delivery (stepIn put (now (scratch .entry))) (now (out .entry))) × Held r (length (now (scratch .entry))) ⌝ }
+{
+    match put {
+        Put::Refused(k) => Put::Refused(k),
+        Put::At(n) => {
+            if bytes::deliver(out, scratch, n) {
+                return Put::At(n);
+            }
+            Put::Refused(NO_ROOM)
+        }
+    }
 }

@@ -73,7 +73,7 @@ returns-3 c =
     )
 
 node-at-requires : tie.Need-node-at-requires
-node-at-requires c κs = let start = c .before .before .before .before .before .before .before .before .before .before .before .before .before .before .before .before .before .before .before .before .before .before in long-enough (passed narrow (now (start .args .left)) (start .pre .0 .sizes))
+node-at-requires c κs = let start = c .before .before .before .before .before .before .before .before .before .before .before .before .before .before .before .before .before .before .before in long-enough (passed narrow (now (start .args .left)) (start .pre .0 .sizes))
 
 put-pair-requires : tie.Need-put-pair-requires
 put-pair-requires c κs =
@@ -85,7 +85,7 @@ put-pair-requires c κs =
 returns-4 : tie.Need-returns-4
 returns-4 c =
     let put = c .before .before in
-    let node = put .before in
+    let node = put .before .before .before .before in
     let last = put .before .before .before .before .before .before .before in
     let nature = put .before .before .before .before .before .before .before .before .before .before .before .before .before in
     let width = nature .before .before .before in
@@ -119,9 +119,9 @@ step-copy-spec =
     last-code-requires
     returns-3
     (λ c κs. search needs)
-    (λ c. search needs)
-    (λ c. search needs)
     node-at-requires
+    (λ c. search needs)
+    (λ c. search needs)
     put-pair-requires
     (λ c. search needs)
     returns-4)

@@ -1,78 +1,33 @@
 -- The plan call that gives 0: every leaf passed 3 to 5 and stands as it was, and every step's slot holds the sheet derived of its operands' sheets, all as
 -- the buffer has them at the end.
---     planned      a plan that passed 1: its counts, and operands that are earlier nodes
 --     plan-made    what an accepted call leaves in the buffer
 -- Assumes nothing.
 use mathlib.Core.Path.{_≡_, refl, sym, ap, ap₂, subst, _∙_}
-use mathlib.Core.Bool.{Bool, true, false, cond, not, _&&_, _||_}
+use mathlib.Core.Bool.{Bool, true, false, cond}
 use mathlib.Core.List.{List}
-use Prim.Native.Nat.{ℕ, zero, suc, _+_, _*_, _≤_, _<_}
+use Prim.Native.Nat.{ℕ, zero, suc, _+_, _≤_, _<_}
 use native.Mathlib.Omega.{arith}
-use lib.Dec.{T, eqb, ltb}
+use lib.Dec.{eqb, ltb}
 use lib.ListN.{length, take, drop, getD, length-take, List·getD-eq-default}
 use lib.Seq.{take-take, getD-take, getD-drop}
-use borrow.Author.Tests.{eqb-true, eqb-false, ltb-true, ltb-false, not-false}
+use borrow.Author.Tests.{eqb-true, eqb-false, ltb-true, ltb-false}
 use Rattle.numbers.specs.Result.{Result, ok, refused}
 use Rattle.utilities.specs.Lists.{listFrom}
 use Rattle.base.specs.Form.{narrow, longest, lengthCalledFor}
 use Rattle.base.specs.Sheet.{Sheet}
 use Rattle.base.specs.Decode.{decode}
-use Rattle.base.specs.Checks.{holdsFrom, read}
-use Rattle.base.specs.Components.{componentOf, isUnary}
-use Rattle.base.specs.declared.Numbered.{Numbered}
-use Rattle.base.specs.declared.Numbered.the-variants as N
-use Rattle.base.proofs.Flags.{or-no, and-both}
-use Rattle.base.proofs.Holding.{holds-within}
+use Rattle.base.specs.Checks.{read}
 use Rattle.base.proofs.Passed.{Passed}
 use Rattle.transforms.specs.Derive.{derive}
 use Rattle.transforms.specs.Single.{Outcome, outcome}
 use Rattle.writer.proofs.Groups.{AllBytes}
-use Rattle.plan.specs.Form.{nodeLimit, stepsAt, noNode, nodeCount, leafCount, stepCount, componentNumber, leftOf, rightOf, stepPermitted, planFails}
+use Rattle.plan.specs.Form.{nodeLimit, noNode, nodeCount, leafCount, stepCount, leftOf, rightOf, planFails}
 use Rattle.plan.specs.Walk.{slotAt, slot, sheetIn, stepOn, unlessRefused, walk, leafThen, leavesThen, leafNodes, stepNodes, plan}
 use Rattle.plan.specs.Held.{Held}
+use Rattle.plan.proofs.FormLaws.{Planned, planned}
 use Rattle.plan.proofs.Gives.{Gives}
 use Rattle.plan.proofs.Decoded.{decoded-held}
 use Rattle.plan.proofs.Slots.{read-gives, sheet-same, sheetAt, Derives, Stepped, step-made}
-
--- ---- a plan that passed 1
-
-pub record Planned (p : List ℕ) : Type 0 where
-  pub nodes : nodeCount p ≤ nodeLimit
-  pub leaves : leafCount p ≤ nodeCount p
-  pub earlier : (k : ℕ) → leafCount p ≤ k → k < nodeCount p → (leftOf p k < k) × (rightOf p k < k)
-
-permitted-earlier : (p : List ℕ) (n : Numbered) (k : ℕ) → stepPermitted p n k ≡ true → (leftOf p k < k) × (rightOf p k < k)
-unfolding stepPermitted
-permitted-earlier p N.Unlisted k e = absurd (subst T (sym e) tt)
-permitted-earlier p (N.Is c) k e =
-    let a = ltb (leftOf p k) k in
-    let b = ltb (rightOf p k) k in
-    let z = and-both a b (and-both (a && b) (not (isUnary c) || eqb (leftOf p k) (rightOf p k)) e .0) in
-    (ltb-true (leftOf p k) k (z .0), ltb-true (rightOf p k) k (z .1))
-
-pub planned : (p : List ℕ) → planFails p ≡ false → Planned p
-unfolding planFails
-planned p e =
-    let a = ltb (length p) stepsAt in
-    let b = eqb (nodeCount p) 0 in
-    let c = ltb nodeLimit (nodeCount p) in
-    let d = eqb (leafCount p) 0 in
-    let f = ltb (nodeCount p) (leafCount p) in
-    let g = not (eqb (length p) (stepsAt + 8 * stepCount p)) in
-    let test : ℕ → Bool = λ k. stepPermitted p (componentOf (componentNumber p k)) k in
-    let h = holdsFrom (stepCount p) (leafCount p) test in
-    let z = or-no (a || b || c || d || f || g) (not h) e in
-    let y = or-no (a || b || c || d || f) g (z .0) in
-    let x = or-no (a || b || c || d) f (y .0) in
-    let w = or-no (a || b || c) d (x .0) in
-    let v = or-no (a || b) c (w .0) in
-    let many = ltb-false (nodeCount p) (leafCount p) (x .1) in
-    let all : h ≡ true = not-false h (z .1) in
-    record {
-      nodes = ltb-false nodeLimit (nodeCount p) (v .1);
-      leaves = many;
-      earlier = λ k i j. permitted-earlier p (componentOf (componentNumber p k)) k (holds-within test (stepCount p) (leafCount p) k all i (omega arith));
-    }
 
 -- ---- leaves
 

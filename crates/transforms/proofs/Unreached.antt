@@ -1,0 +1,204 @@
+-- Categories under Modulo, Log and Power.
+--     categories-unreached    on the right of Modulo, Log and Int Power they are refused with 6, 7, 14 or 15, before any rule
+--     float-power-refused     two category operands of any other Power are refused without a rule
+-- Assumes nothing.
+use mathlib.Core.Path.{_≡_, refl, sym, subst}
+use mathlib.Core.Bool.{Bool, true, false, cond, not, _&&_}
+use mathlib.Core.List.{List, [], _∷_, _++_}
+use mathlib.Core.Option.{none}
+use mathlib.Core.Logic.{_⊎_, inl, inr, ⊎-elim}
+use Prim.Native.Nat.{ℕ}
+use lib.IntN.{ℤ}
+use lib.Ieee.{Float}
+use lib.Dec.{T, eqb}
+use borrow.Author.Tests.{eqb-true}
+use Rattle.numbers.specs.Result.{Result, refused, Check, check, checked}
+use Rattle.numbers.specs.Kind.{Span}
+use Rattle.numbers.proofs.Results.{then-refused}
+use Rattle.utilities.specs.Lists.{every, has}
+use Rattle.base.specs.Form.{intType, floatType}
+use Rattle.base.specs.Sheet.{Sheet, Nature, absent, wholeRange, floatRange, wholeLists, boolLists, floatLists, isWholeRange}
+use Rattle.base.specs.Encode.{natureNumber}
+use Rattle.base.specs.Bounds.{everyEntry, lowersPresent, wholeLowersPresent}
+use Rattle.base.specs.declared.Component.{Component}
+use Rattle.base.specs.declared.Component.the-variants as C
+use Rattle.categories.specs.Categories.{categoryRule}
+use Rattle.shape.specs.Shape.{columnsOf, columnsAbsent}
+use Rattle.shape.specs.Orders.{bothOf, powerChecks, copyChecks}
+use Rattle.shape.specs.Parts.{boundChecksOf}
+use Rattle.transforms.specs.Natures.{ruleFor, isFloatLists, noLists, listsPair, listsWith, binaryNature}
+use Rattle.transforms.specs.Derive.{deriveCopy, derive}
+use Rattle.transforms.specs.Unreached.{RefusedWith, isLists, readsRight}
+use Rattle.transforms.proofs.Passing.{both-hold}
+use Rattle.transforms.proofs.Never.{and-no}
+
+-- ---- checks in a row that refuse
+
+-- checks in a row whose first failure has a listed number, and one of which fails
+abbrev Stops : List ℕ → List Check → Type 0
+Stops ks [] = ⊥
+Stops ks (c ∷ cs) = (has eqb (c .number) ks ≡ true) × ((c .fails ≡ true) ⊎ Stops ks cs)
+
+module _ {X : Type 0} (ks : List ℕ) (rest : Result X) where
+  -- the first of some checks, and what the others come to
+  first-refused : (c : Check) (g : Result X) → has eqb (c .number) ks ≡ true → (c .fails ≡ true) ⊎ RefusedWith ks g
+      → RefusedWith ks (cond (c .fails) (refused (c .number)) g)
+  first-refused c g h w = go (c .fails) w
+    where
+      go : (t : Bool) → (t ≡ true) ⊎ RefusedWith ks g → RefusedWith ks (cond t (refused (c .number)) g)
+      go true w = record { number = c .number; among = h; is = refl }
+      go false (inl e) = absurd (subst T (sym e) tt)
+      go false (inr w) = w
+
+  stopped : (cs : List Check) → Stops ks cs → RefusedWith ks (checked cs rest)
+  unfolding checked
+  stopped [] s = absurd s
+  stopped (c ∷ cs) s = first-refused c (checked cs rest) (s .0) (⊎-elim (λ e. inl e) (λ w. inr (stopped cs w)) (s .1))
+
+  -- checks with listed numbers before a refusal
+  refused-after : (cs : List Check) → every (λ c. has eqb (c .number) ks) cs ≡ true → RefusedWith ks rest → RefusedWith ks (checked cs rest)
+  unfolding checked every
+  refused-after [] h w = w
+  refused-after (c ∷ cs) h w =
+      let b = both-hold (has eqb (c .number) ks) (every (λ c. has eqb (c .number) ks) cs) h in
+      first-refused c (checked cs rest) (b .0) (inr (refused-after cs (b .1) w))
+
+stops-longer : (ks : List ℕ) (cs ds : List Check) → Stops ks cs → Stops ks (cs ++ ds)
+stops-longer ks [] ds s = absurd s
+stops-longer ks (c ∷ cs) ds s = (s .0, ⊎-elim (λ e. inl e) (λ w. inr (stops-longer ks cs ds w)) (s .1))
+
+-- ---- 14 and 15 of Modulo, Log and Int Power
+
+-- no bound is read of categories
+lists-no-entry : (p : Span ℤ → Bool) (q : Span Float → Bool) (k : Nature) → isLists k ≡ true → everyEntry p q k ≡ false
+unfolding everyEntry
+lists-no-entry p q absent e = absurd (subst T (sym e) tt)
+lists-no-entry p q (wholeRange rs) e = absurd (subst T (sym e) tt)
+lists-no-entry p q (floatRange rs) e = absurd (subst T (sym e) tt)
+lists-no-entry p q (wholeLists ls) e = refl
+lists-no-entry p q (boolLists ls) e = refl
+lists-no-entry p q (floatLists ls) e = refl
+
+no-lowers : (k : Nature) → isLists k ≡ true → lowersPresent k ≡ false
+unfolding lowersPresent
+no-lowers k e = lists-no-entry _ _ k e
+
+no-whole-lowers : (k : Nature) → isLists k ≡ true → wholeLowersPresent k ≡ false
+unfolding wholeLowersPresent
+no-whole-lowers k e = and-no (isWholeRange k) (lowersPresent k) (no-lowers k e)
+
+abbrev early : List ℕ
+early = 6 ∷ 7 ∷ 14 ∷ 15 ∷ []
+
+choice-stops : (a b : Bool) (xs ys zs : List Check) → Stops early xs → Stops early ys → Stops early zs → Stops early (cond a xs (cond b ys zs))
+choice-stops true b xs ys zs x y z = x
+choice-stops false true xs ys zs x y z = y
+choice-stops false false xs ys zs x y z = z
+
+int-no-float : (a b : ℕ) → eqb a intType ≡ true → (eqb a floatType && eqb b floatType) ≡ false
+int-no-float a b e = rw (eqb-true a intType e)
+
+-- 14 or 15 fails
+bounds-stop : (c : Component) (l r : Sheet) → readsRight c (l .fields .dataType) ≡ true → isLists (r .nature) ≡ true → Stops early (boundChecksOf c l r)
+unfolding has
+bounds-stop C.Abs l r e h = absurd (subst T (sym e) tt)
+bounds-stop C.Add l r e h = absurd (subst T (sym e) tt)
+bounds-stop C.Subtract l r e h = absurd (subst T (sym e) tt)
+bounds-stop C.Multiply l r e h = absurd (subst T (sym e) tt)
+bounds-stop C.Divide l r e h = absurd (subst T (sym e) tt)
+bounds-stop C.Modulo l r e h =
+    choice-stops (bothOf l r intType) (bothOf l r floatType) _ _ _ (refl, inl (rw (no-whole-lowers (r .nature) h))) (refl, inl (rw (no-lowers (r .nature) h))) (refl, inl refl)
+bounds-stop C.Log l r e h = (refl, inr (refl, inl (rw (no-lowers (r .nature) h))))
+bounds-stop C.Power l r e h =
+    let floats : bothOf l r floatType ≡ false = int-no-float (l .fields .dataType) (r .fields .dataType) e in
+    rw floats (choice-stops (bothOf l r intType) true _ (check 14 true ∷ []) (check 14 true ∷ []) (refl, inl (rw (no-whole-lowers (r .nature) h))) (refl, inl refl) (refl, inl refl))
+bounds-stop C.Negative l r e h = absurd (subst T (sym e) tt)
+
+derive-copies : (limit : ℕ) (c : Component) (l r : Sheet) → readsRight c (l .fields .dataType) ≡ true
+    → derive limit c l r ≡ deriveCopy limit c (boundChecksOf c l r) l r
+unfolding derive
+derive-copies limit C.Abs l r e = absurd (subst T (sym e) tt)
+derive-copies limit C.Add l r e = absurd (subst T (sym e) tt)
+derive-copies limit C.Subtract l r e = absurd (subst T (sym e) tt)
+derive-copies limit C.Multiply l r e = absurd (subst T (sym e) tt)
+derive-copies limit C.Divide l r e = absurd (subst T (sym e) tt)
+derive-copies limit C.Modulo l r e = refl
+derive-copies limit C.Log l r e = refl
+derive-copies limit C.Power l r e = refl
+derive-copies limit C.Negative l r e = absurd (subst T (sym e) tt)
+
+-- the component reads right's bounds, and categories have none: no rule for categories is reached, whatever left is
+pub categories-unreached :
+    (limit : ℕ) (c : Component) (l r : Sheet) → readsRight c (l .fields .dataType) ≡ true → isLists (r .nature) ≡ true
+    → RefusedWith (6 ∷ 7 ∷ 14 ∷ 15 ∷ []) (derive limit c l r)
+unfolding deriveCopy has
+categories-unreached limit c l r e h =
+    let bounds = boundChecksOf c l r in
+    rw (derive-copies limit c l r e)
+    (stopped early _ (copyChecks l r bounds)
+    (refl, inr (refl, inr (refl, inr (refl, inr (stops-longer early bounds (check 11 (columnsAbsent (l .fields)) ∷ []) (bounds-stop c l r e h)))))))
+
+-- ---- Power of other types
+
+abbrev unruled : List ℕ
+unruled = 6 ∷ 7 ∷ 11 ∷ 14 ∷ 19 ∷ 20 ∷ 21 ∷ 22 ∷ []
+
+no-power-rule : (type : ℕ) (l : Nature) → eqb type intType ≡ false → ruleFor C.Power type l ≡ none
+unfolding categoryRule
+no-power-rule type absent e = refl
+no-power-rule type (wholeRange rs) e = refl
+no-power-rule type (floatRange rs) e = refl
+no-power-rule type (wholeLists ls) e = rw e
+no-power-rule type (boolLists ls) e = refl
+no-power-rule type (floatLists ls) e = refl
+
+module _ (limit type columns : ℕ) (e : eqb type intType ≡ false) where
+  lists-refused : (l r : Nature) → RefusedWith unruled (listsPair limit C.Power type columns l r)
+  unfolding listsPair every has
+  lists-refused l r =
+      rw (no-power-rule type l e)
+      (refused-after unruled _
+      (check 19 (isFloatLists l)
+      ∷ check 20 (noLists l)
+      ∷ check 19 (isFloatLists r)
+      ∷ check 20 (noLists r)
+      ∷ check 21 (not (eqb (natureNumber l) (natureNumber r)))
+      ∷ [])
+      refl
+      (record { number = 22; among = refl; is = refl }))
+
+  with-refused : (l r : Nature) → isLists r ≡ true → RefusedWith unruled (listsWith limit C.Power type columns l r)
+  unfolding listsWith
+  with-refused l absent h = absurd (subst T (sym h) tt)
+  with-refused l (wholeRange rs) h = absurd (subst T (sym h) tt)
+  with-refused l (floatRange rs) h = absurd (subst T (sym h) tt)
+  with-refused l (wholeLists ls) h = lists-refused l (wholeLists ls)
+  with-refused l (boolLists ls) h = lists-refused l (boolLists ls)
+  with-refused l (floatLists ls) h = lists-refused l (floatLists ls)
+
+  nature-refused : (l r : Nature) → isLists l ≡ true → isLists r ≡ true → RefusedWith unruled (binaryNature limit C.Power type columns l r)
+  unfolding binaryNature
+  nature-refused absent r g h = absurd (subst T (sym g) tt)
+  nature-refused (wholeRange rs) r g h = absurd (subst T (sym g) tt)
+  nature-refused (floatRange rs) r g h = absurd (subst T (sym g) tt)
+  nature-refused (wholeLists ls) r g h = with-refused (wholeLists ls) r h
+  nature-refused (boolLists ls) r g h = with-refused (boolLists ls) r h
+  nature-refused (floatLists ls) r g h = with-refused (floatLists ls) r h
+
+power-listed : (a b t : Bool) (cs : List Check) → a ≡ false
+    → every (λ c. has eqb (c .number) unruled) (cond a cs (cond b [] (check 14 true ∷ [])) ++ (check 11 t ∷ [])) ≡ true
+unfolding every has
+power-listed true b t cs e = absurd (subst T e tt)
+power-listed false true t cs e = refl
+power-listed false false t cs e = refl
+
+-- 01: "Float Power has none": two category operands of a Power that is not of type Int
+pub float-power-refused :
+    (limit : ℕ) (l r : Sheet) → eqb (l .fields .dataType) intType ≡ false → isLists (l .nature) ≡ true → isLists (r .nature) ≡ true
+    → RefusedWith (6 ∷ 7 ∷ 11 ∷ 14 ∷ 19 ∷ 20 ∷ 21 ∷ 22 ∷ []) (derive limit C.Power l r)
+unfolding derive deriveCopy every has
+float-power-refused limit l r e g h =
+    let w = nature-refused limit (l .fields .dataType) (columnsOf (l .fields)) e (l .nature) (r .nature) g h in
+    refused-after unruled _ (copyChecks l r (powerChecks l r))
+    (power-listed (bothOf l r intType) (bothOf l r floatType) (columnsAbsent (l .fields)) _ (rw e))
+    (record { number = w .number; among = w .among; is = then-refused _ (w .is) })
