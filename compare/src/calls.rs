@@ -1,0 +1,249 @@
+//! Single calls: generated, stored, and bad ones.
+
+use crate::draw;
+use crate::guard::{Expected, Guard, Request, FILLER, SINGLES};
+use crate::tally::Tally;
+use oracle_list::form::{self, hex, Call};
+use oracle_list::generate;
+use oracle_list::random::Random;
+use oracle_list::text;
+
+fn oracle(call: &Request) -> Expected {
+    let answer = oracle_original::answer(
+        call.component,
+        call.node,
+        call.left,
+        call.right,
+        call.out_len,
+    );
+    Expected {
+        code: answer.code,
+        bytes: answer.bytes,
+    }
+}
+
+fn request(call: &Call) -> Request<'_> {
+    Request {
+        component: call.component,
+        node: call.node,
+        left: &call.left,
+        right: &call.right,
+        out_len: call.out_len,
+    }
+}
+
+fn show(name: &str, fault: &str, call: &Request, wanted: &Expected) -> String {
+    let (left, right) = (hex(call.left), hex(call.right));
+    format!(
+        "{name}: {fault}; call {} {} {left} {right} {}; oracle {} {}",
+        call.component,
+        call.node,
+        call.out_len,
+        wanted.code,
+        hex(&wanted.bytes)
+    )
+}
+
+/// Generated calls, answered by the proved library, the port and the oracle.
+pub fn generated(seed: u64, count: usize) -> Tally {
+    let mut random = Random::new(seed);
+    let (mut guard, mut tally) = (Guard::default(), Tally::default());
+    for _ in 0..count {
+        let mut drawn = draw::call(&mut random);
+        let mut wanted = oracle(&request(&drawn));
+        drawn.out_len = draw::out_len(&mut random, wanted.bytes.len());
+        if drawn.out_len < wanted.bytes.len() {
+            wanted = oracle(&request(&drawn));
+        }
+        hold(&mut guard, &mut tally, &request(&drawn), &wanted);
+    }
+    tally
+}
+
+fn hold(guard: &mut Guard, tally: &mut Tally, call: &Request, wanted: &Expected) {
+    tally.count(wanted.code);
+    for (name, answer) in SINGLES {
+        if let Err(fault) = guard.check(answer, call, wanted) {
+            tally.differ(|| show(name, &fault, call, wanted));
+        }
+    }
+}
+
+/// The stored list, replayed by the proved library and the port.
+pub fn stored(text: &str) -> Result<Tally, String> {
+    let (mut guard, mut tally) = (Guard::default(), Tally::default());
+    for line in form::parse_list(text)? {
+        let wanted = Expected {
+            code: line.answer.code,
+            bytes: line.answer.bytes,
+        };
+        hold(&mut guard, &mut tally, &request(&line.call), &wanted);
+    }
+    Ok(tally)
+}
+
+const LENGTHS: [usize; 7] = [0, 79, 80, 1283, 1284, 1285, 70_000];
+const OUTPUTS: [usize; 6] = [0, 79, 80, 1284, 1285, 70_000];
+const COMPONENTS: [u32; 12] = [0, 1, 2, 3, 4, 5, 6, 7, 8, 9, 200, u32::MAX];
+
+/// Any bytes in any argument.
+pub fn bad(seed: u64) -> Tally {
+    let mut random = Random::new(seed);
+    let (mut guard, mut tally) = (Guard::default(), Tally::default());
+    for component in COMPONENTS {
+        for left_len in LENGTHS {
+            for right_len in LENGTHS {
+                for out_len in OUTPUTS {
+                    let left = any_bytes(&mut random, left_len);
+                    let right = any_bytes(&mut random, right_len);
+                    let node = random.word() as u32;
+                    let call = Request {
+                        component,
+                        node,
+                        left: &left,
+                        right: &right,
+                        out_len,
+                    };
+                    hold(&mut guard, &mut tally, &call, &oracle(&call));
+                }
+            }
+        }
+    }
+    shared(&mut random, &mut guard, &mut tally);
+    tally
+}
+
+/// Zeros, ones, noise, small numbers, or a sheet cut or filled to the length.
+fn any_bytes(random: &mut Random, length: usize) -> Vec<u8> {
+    match random.below(7) {
+        6 => {
+            // Sizes of 0 let 80 bytes of noise come as far as check 4.
+            let noise = |at| if at < 6 { 0 } else { random.word() as u8 };
+            (0..length).map(noise).collect()
+        }
+        0 => vec![0; length],
+        1 => vec![0xff; length],
+        2 => (0..length).map(|_| random.word() as u8).collect(),
+        3 => (0..length).map(|_| random.below(3) as u8).collect(),
+        _ => {
+            let mut bytes = generate::valid_sheet(random).encode();
+            bytes.resize(length, if random.percent(50) { 0 } else { FILLER });
+            bytes
+        }
+    }
+}
+
+/// Operands that share bytes: one slice twice, and shifted parts of one buffer.
+fn shared(random: &mut Random, guard: &mut Guard, tally: &mut Tally) {
+    for component in COMPONENTS {
+        for _ in 0..400 {
+            let sheet = generate::valid_sheet(random).encode();
+            let length = sheet.len();
+            let same = [(0, length), (0, length)];
+            hold_shared(guard, tally, component, &sheet, same, length + 2000);
+            let shift = random.below(length);
+            for parts in [
+                [(0, length), (shift, length - shift)],
+                [(shift, length - shift), (0, length)],
+                [(0, length - shift), (shift, length - shift)],
+            ] {
+                hold_shared(guard, tally, component, &sheet, parts, 1284);
+            }
+        }
+        let (buffer, parts) = tail_is_a_head();
+        hold_shared(guard, tally, component, &buffer, parts, 200);
+    }
+}
+
+/// Two permitted sheets, the second of which begins inside the first: left's
+/// last 18 bytes (an absent lower, an upper) are the front of right's head.
+pub fn tail_is_a_head() -> (Vec<u8>, [(usize, usize); 2]) {
+    let mut buffer = text::bytes("W[_,257] type=Unknown");
+    let right =
+        text::bytes("absent type=Unknown notempty=1 ordered=1 c=0 aggregator=0 rows=1 columns=1");
+    let start = buffer.len() - 18;
+    buffer.extend(&right[18..]);
+    (buffer, [(0, start + 18), (start, right.len())])
+}
+
+fn hold_shared(
+    guard: &mut Guard,
+    tally: &mut Tally,
+    component: u32,
+    buffer: &[u8],
+    parts: [(usize, usize); 2],
+    out_len: usize,
+) {
+    let [(left, left_len), (right, right_len)] = parts;
+    let call = Request {
+        component,
+        node: 7,
+        left: &buffer[left..left + left_len],
+        right: &buffer[right..right + right_len],
+        out_len,
+    };
+    let wanted = oracle(&call);
+    tally.count(wanted.code);
+    for (name, answer) in SINGLES {
+        if let Err(fault) = guard.check_shared(answer, &call, buffer, parts, &wanted) {
+            tally.differ(|| show(name, &fault, &call, &wanted));
+        }
+    }
+}
+
+#[cfg(test)]
+mod tests {
+    use super::*;
+
+    #[test]
+    fn generated_calls_agree() {
+        let tally = generated(1, 4000);
+        assert_eq!(tally.differences, 0, "{tally}");
+        assert!(
+            tally.of(0) > 400 && tally.of(3) > 100 && tally.of(4) > 100 && tally.of(27) > 20,
+            "{tally}"
+        );
+    }
+
+    #[test]
+    fn overlapping_sheets_are_permitted() {
+        let (buffer, [left, right]) = tail_is_a_head();
+        let part = |(at, len): (usize, usize)| &buffer[at..at + len];
+        assert_eq!(plain_port::check_sheet(part(left)), 0);
+        assert_eq!(plain_port::check_sheet(part(right)), 0);
+        let answer = oracle_original::answer(2, 7, part(left), part(right), 200);
+        assert_eq!(answer.code, 0);
+    }
+
+    /// A wrong answer is seen: the reply, a byte of the result, a byte behind it.
+    #[test]
+    fn a_wrong_answer_is_a_difference() {
+        let call = Call {
+            component: 2,
+            node: 1,
+            left: text::bytes("W[1,2]"),
+            right: text::bytes("W[10,20]"),
+            out_len: 120,
+        };
+        let wanted = oracle(&request(&call));
+        let check = |answer| Guard::default().check(answer, &request(&call), &wanted);
+        assert!(check(plain_port::propagate_property).is_ok());
+        assert!(check(|c, n, l, r, out| (
+            0,
+            plain_port::propagate_property(c, n, l, r, out).1 + 1
+        ))
+        .is_err());
+        assert!(check(|c, n, l, r, out| {
+            let reply = plain_port::propagate_property(c, n, l, r, out);
+            out[97] ^= 1;
+            reply
+        })
+        .is_err());
+        assert!(check(|c, n, l, r, out| {
+            let reply = plain_port::propagate_property(c, n, l, r, out);
+            out[98] ^= 1;
+            reply
+        })
+        .is_err());
+    }
+}

@@ -1,0 +1,424 @@
+//! Demand 3 tried on accepted plans: every row's exact results keep to what the
+//! sheets state. Sheets are read by the oracle's reader, after the call.
+
+mod leaves;
+
+use crate::exact::{Exact, TooLong};
+use crate::plans::{self, is_unary, Draft, Step, MOST_NODES, PLANS, SLOT};
+use crate::tally::Tally;
+use oracle_list::form::hex;
+use oracle_list::random::Random;
+use oracle_list::sheet::{Nature, Sheet};
+use std::fmt;
+
+/// Rows with a longer result are given up, and counted.
+const MOST_BITS: u64 = 4096;
+const ROWS: usize = 8;
+const INT: u8 = 4;
+const LOG: u32 = 7;
+pub const NAMES: [&str; 9] = [
+    "Abs", "Add", "Subtract", "Multiply", "Divide", "Modulo", "Log", "Power", "Negative",
+];
+
+/// What was tried.
+#[derive(Default)]
+pub struct Counts {
+    pub tally: Tally,
+    pub steps: [usize; 9],
+    pub rows: usize,
+    pub given_up: usize,
+    pub results: usize,
+    pub ends: usize,
+    pub lists: usize,
+    /// Nodes of steps by what they state: absent, range, categories.
+    pub natures: [usize; 3],
+    pub beyond: usize,
+    /// Log on operands that meet the premises, refused as it has to be.
+    pub log_refused: usize,
+}
+
+impl fmt::Display for Counts {
+    fn fmt(&self, f: &mut fmt::Formatter) -> fmt::Result {
+        writeln!(f, "plans that meet the premises, {}", self.tally)?;
+        for (name, count) in NAMES.iter().zip(self.steps) {
+            write!(f, "{name} {count}, ")?;
+        }
+        let all = self.steps.iter().sum::<usize>();
+        writeln!(
+            f,
+            "{all} steps in all; Log refused {} times",
+            self.log_refused
+        )?;
+        let [absent, ranges, lists] = self.natures;
+        writeln!(
+            f,
+            "steps' sheets: {ranges} ranges, {lists} categories, {absent} absent"
+        )?;
+        write!(
+            f,
+            "{} rows ({} with a number beyond 64 bits) and {} given up as too long; {} results held against {} present ends and {} lists",
+            self.rows, self.beyond, self.given_up, self.results, self.ends, self.lists
+        )
+    }
+}
+
+/// Accepted plans, each with rows.
+pub fn generated(seed: u64, count: usize) -> Counts {
+    let mut random = Random::new(seed);
+    let mut counts = Counts::default();
+    while counts.tally.total() < count {
+        let draft = draw(&mut random, &mut counts);
+        let Some(sheets) = run(&draft, &mut counts).filter(|_| !draft.steps.is_empty()) else {
+            continue;
+        };
+        counts.tally.count(0);
+        for (step, sheet) in draft.steps.iter().zip(&sheets[draft.leaves.len()..]) {
+            counts.steps[step.component as usize - 1] += 1;
+            counts.natures[match sheet.nature {
+                Nature::Absent => 0,
+                Nature::WholeRange(_) | Nature::FloatRange(_) => 1,
+                _ => 2,
+            }] += 1;
+        }
+        for turn in 0..ROWS {
+            let row: Vec<Vec<Exact>> = sheets[..draft.leaves.len()]
+                .iter()
+                .map(|leaf| leaves::numbers(&mut random, leaf, turn))
+                .collect();
+            try_row(&draft, &sheets, row, &mut counts);
+        }
+    }
+    counts
+}
+
+fn try_row(draft: &Draft, sheets: &[Sheet], row: Vec<Vec<Exact>>, counts: &mut Counts) {
+    let far = row.iter().flatten().any(|number| number.bits() > 64);
+    match violation(&draft.steps, sheets, row, counts) {
+        Err(TooLong) => counts.given_up += 1,
+        Ok(fault) => {
+            counts.rows += 1;
+            counts.beyond += usize::from(far);
+            if let Some(fault) = fault {
+                counts.tally.differ(|| show(draft, &fault));
+            }
+        }
+    }
+}
+
+fn show(draft: &Draft, fault: &str) -> String {
+    let leaves: Vec<String> = draft.leaves.iter().map(|sheet| hex(sheet)).collect();
+    format!(
+        "{fault}; plan {} leaves {}",
+        hex(&draft.encode()),
+        leaves.join(",")
+    )
+}
+
+/// The nodes' sheets after the plan calls, if the plan is accepted and meets
+/// the premises; a plan call that differs from the others is a difference.
+fn run(draft: &Draft, counts: &mut Counts) -> Option<Vec<Sheet>> {
+    let work = plans::lay_out(&draft.request(), 0);
+    let plan = draft.encode();
+    let mut first: Option<((u32, u32), Vec<u8>)> = None;
+    for (name, answer) in PLANS {
+        let mut lent = work.clone();
+        let reply = answer(&plan, &mut lent);
+        match &first {
+            None => first = Some((reply, lent)),
+            Some((wanted, bytes)) if *wanted == reply && *bytes == lent => (),
+            Some(_) => counts
+                .tally
+                .differ(|| show(draft, &format!("{name} differs"))),
+        }
+    }
+    let ((code, nodes), work) = first?;
+    if code != 0 || nodes as usize != draft.nodes() {
+        return None;
+    }
+    let sheets: Option<Vec<Sheet>> = (0..draft.nodes())
+        .map(|node| sheet_at(&work[SLOT * node..SLOT * (node + 1)]))
+        .collect();
+    let Some(sheets) = sheets else {
+        counts.tally.differ(|| show(draft, "a slot holds no sheet"));
+        return None;
+    };
+    premises(draft.leaves.len(), &draft.steps, &sheets).then_some(sheets)
+}
+
+fn sheet_at(slot: &[u8]) -> Option<Sheet> {
+    let size = |at: usize| slot[at] as usize;
+    let tail = match slot[6] {
+        1 | 2 => 18 * size(2),
+        _ => 9 * size(4),
+    };
+    Sheet::decode_unordered(slot.get(..80 + 13 * size(0) + tail)?).ok()
+}
+
+/// The premises of demand 3, over the sheets.
+pub fn premises(leaves: usize, steps: &[Step], sheets: &[Sheet]) -> bool {
+    sheets[..leaves].iter().all(leaf_fits)
+        && steps
+            .iter()
+            .all(|step| step_fits(step.component, &sheets[step.left], &sheets[step.right]))
+}
+
+fn leaf_fits(leaf: &Sheet) -> bool {
+    let whole = matches!(leaf.nature, Nature::WholeRange(_) | Nature::WholeLists(_));
+    let lists = leaf.nature.lists();
+    whole
+        && leaf
+            .columns
+            .is_some_and(|columns| lists == 1 || lists as i64 == columns)
+}
+
+fn step_fits(component: u32, left: &Sheet, right: &Sheet) -> bool {
+    let (Some(l), Some(r)) = (left.columns, right.columns) else {
+        return false;
+    };
+    let range =
+        |sheet: &Sheet| matches!(sheet.nature, Nature::WholeRange(_) | Nature::FloatRange(_));
+    (l == r || l == 1 || r == 1)
+        && match component {
+            3 => !(range(left) && range(right)),
+            5 => (0..r as usize).all(|column| without_zero(right, column)),
+            8 => left.data_type == INT && right.data_type == INT,
+            _ => true,
+        }
+}
+
+/// What a sheet states of a column: its own entry, or the only one.
+fn stated<T>(lists: &[T], column: usize) -> Option<&T> {
+    if lists.len() == 1 {
+        return lists.first();
+    }
+    lists.get(column)
+}
+
+fn without_zero(divisor: &Sheet, column: usize) -> bool {
+    match &divisor.nature {
+        Nature::WholeRange(entries) => stated(entries, column).is_some_and(|(lower, upper)| {
+            lower.is_some_and(|end| end > 0) || upper.is_some_and(|end| end < 0)
+        }),
+        Nature::WholeLists(lists) => stated(lists, column).is_some_and(|list| !list.contains(&0)),
+        _ => false,
+    }
+}
+
+/// What is false for this row, if anything. `row` has the leaves' columns.
+pub fn violation(
+    steps: &[Step],
+    sheets: &[Sheet],
+    row: Vec<Vec<Exact>>,
+    counts: &mut Counts,
+) -> Result<Option<String>, TooLong> {
+    let mut results = row;
+    for step in steps {
+        let node = results.len();
+        let columns = sheets[node].columns.unwrap_or(0) as usize;
+        let mut of_node = Vec::with_capacity(columns);
+        for column in 0..columns {
+            match result(step, &results, column)? {
+                Some(value) => of_node.push(value),
+                None => {
+                    return Ok(Some(format!(
+                        "node {node} column {column}: no exact result"
+                    )))
+                }
+            }
+        }
+        results.push(of_node);
+    }
+    for (node, (sheet, columns)) in sheets.iter().zip(&results).enumerate() {
+        for (column, value) in columns.iter().enumerate() {
+            counts.results += 1;
+            if !keeps(sheet, column, value, counts) {
+                let nature = &sheet.nature;
+                return Ok(Some(format!(
+                    "node {node} column {column}: {value:?} leaves {nature:?}"
+                )));
+            }
+        }
+    }
+    Ok(None)
+}
+
+/// A step's result in a column; an operand without that column leaves none.
+fn result(step: &Step, results: &[Vec<Exact>], column: usize) -> Result<Option<Exact>, TooLong> {
+    let left = stated(&results[step.left], column);
+    let right = stated(&results[step.right], column);
+    match left.zip(right) {
+        Some((left, right)) => exact(step.component, left, right),
+        None => Ok(None),
+    }
+}
+
+/// The exact result of a column; nothing where there is none.
+fn exact(component: u32, left: &Exact, right: &Exact) -> Result<Option<Exact>, TooLong> {
+    let value = match component {
+        1 => Some(left.magnitude()),
+        2 => Some(left.plus(right)),
+        3 => Some(left.minus(right)),
+        4 => Some(left.times(right)),
+        5 => left.quotient(right),
+        6 => left.remainder(right),
+        8 => left.power(right, MOST_BITS)?,
+        9 => Some(left.negated()),
+        _ => None,
+    };
+    match value {
+        Some(value) if value.bits() > 2 * MOST_BITS => Err(TooLong),
+        value => Ok(value),
+    }
+}
+
+fn keeps(sheet: &Sheet, column: usize, value: &Exact, counts: &mut Counts) -> bool {
+    let whole = |end: i64| Exact::Small(i128::from(end));
+    match &sheet.nature {
+        Nature::Absent => true,
+        Nature::WholeRange(entries) => stated(entries, column).is_some_and(|(lower, upper)| {
+            counts.ends += usize::from(lower.is_some()) + usize::from(upper.is_some());
+            lower.map_or(true, |end| whole(end) <= *value)
+                && upper.map_or(true, |end| *value <= whole(end))
+        }),
+        Nature::WholeLists(lists) => stated(lists, column).is_some_and(|list| {
+            counts.lists += 1;
+            list.iter().any(|category| whole(*category) == *value)
+        }),
+        _ => false,
+    }
+}
+
+/// Tries at a step: operands that suit Modulo and Power are rare.
+const TRIES: usize = 6;
+
+/// A plan whose steps meet the premises and are accepted one by one.
+fn draw(random: &mut Random, counts: &mut Counts) -> Draft {
+    let nodes = match random.below(10) {
+        0..=4 => random.between(2, 6),
+        5..=8 => random.between(4, 12),
+        _ => random.between(8, MOST_NODES as i64),
+    } as usize;
+    let kin = leaves::Kin::new(random);
+    let leaves = 1 + random.below((nodes - 1).min(5));
+    let sheets: Vec<Sheet> = (0..leaves).map(|_| kin.leaf(random)).collect();
+    let mut draft = Draft::new(sheets.iter().map(Sheet::encode).collect());
+    let mut nodes_so_far = Nodes {
+        bytes: draft.leaves.clone(),
+        sheets,
+    };
+    let mut misses = 0;
+    while draft.nodes() < nodes && misses < 12 {
+        let component = random.between(1, 9) as u32;
+        let found = (0..TRIES).find_map(|_| nodes_so_far.try_step(random, component, counts));
+        match found {
+            Some(step) => draft.steps.push(step),
+            None => misses += 1,
+        }
+    }
+    draft
+}
+
+/// The nodes of a plan that is being drawn.
+struct Nodes {
+    bytes: Vec<Vec<u8>>,
+    sheets: Vec<Sheet>,
+}
+
+impl Nodes {
+    /// Adds a step of the component on any operands, if it may stand and is accepted.
+    fn try_step(
+        &mut self,
+        random: &mut Random,
+        component: u32,
+        counts: &mut Counts,
+    ) -> Option<Step> {
+        let left = random.below(self.bytes.len());
+        let right = if is_unary(component) {
+            left
+        } else {
+            random.below(self.bytes.len())
+        };
+        if !step_fits(component, &self.sheets[left], &self.sheets[right]) {
+            return None;
+        }
+        let mut out = [0; SLOT];
+        let node = self.bytes.len() as u32;
+        let reply = plain_port::propagate_property(
+            component,
+            node,
+            &self.bytes[left],
+            &self.bytes[right],
+            &mut out,
+        );
+        if reply.0 != 0 {
+            counts.log_refused += usize::from(component == LOG);
+            return None;
+        }
+        let derived = &out[..reply.1 as usize];
+        self.sheets
+            .push(Sheet::decode_unordered(derived).expect("the port writes sheets"));
+        self.bytes.push(derived.to_vec());
+        Some(Step {
+            component,
+            left,
+            right,
+        })
+    }
+}
+
+#[cfg(test)]
+mod tests {
+    use super::*;
+    use oracle_list::text;
+
+    #[test]
+    fn results_are_contained() {
+        let counts = generated(1, 800);
+        assert_eq!(counts.tally.differences, 0, "{counts}");
+        for (name, steps) in NAMES.iter().zip(counts.steps) {
+            assert_eq!(steps == 0, *name == "Log", "{counts}");
+        }
+        assert!(
+            counts.ends > 5000 && counts.lists > 1000 && counts.beyond > 500,
+            "{counts}"
+        );
+    }
+
+    /// Whether a plan of two leaves and one step holds for a row.
+    fn holds(component: u32, left: &str, right: &str, row: [i128; 2]) -> (bool, bool) {
+        let leaves = [text::sheet(left), text::sheet(right)];
+        let step = Step {
+            component,
+            left: 0,
+            right: 1,
+        };
+        let mut draft = Draft::new(leaves.iter().map(Sheet::encode).collect());
+        draft.steps.push(step);
+        let mut work = plans::lay_out(&draft.request(), 0);
+        assert_eq!(
+            plain_port::propagate_properties(&draft.encode(), &mut work),
+            (0, 3)
+        );
+        let sheets: Vec<Sheet> = work
+            .chunks(SLOT)
+            .map(|slot| sheet_at(slot).unwrap())
+            .collect();
+        let row = row.map(|value| vec![Exact::Small(value)]).to_vec();
+        let fault = violation(&draft.steps, &sheets, row, &mut Counts::default());
+        (premises(2, &draft.steps, &sheets), fault == Ok(None))
+    }
+
+    /// Outside the premises there are counterexamples, and they are seen.
+    #[test]
+    fn counterexamples_are_seen() {
+        assert_eq!(holds(3, "W[_,0]", "W[_,0]", [0, -1]), (false, false));
+        assert_eq!(holds(5, "W[1,10]", "W[0,5]", [10, 1]), (false, false));
+        assert_eq!(holds(5, "W[_,_]", "W[_,_]", [1, 0]), (false, false));
+        assert_eq!(
+            holds(8, "W[_,_] type=Float", "W[_,_] type=Float", [2, -1]),
+            (false, false)
+        );
+        assert_eq!(holds(2, "W[1,2]", "W[1,2]", [2, 2]), (true, true));
+        assert_eq!(holds(2, "W[1,2]", "W[1,2]", [2, 3]), (true, false));
+    }
+}

@@ -1,0 +1,275 @@
+//! The stored list of plans: chosen by a seed, written as text, replayed.
+
+use crate::guard::FILLER;
+use crate::plans::{self, Draft, Expected, Request, LEAF_CODES, MOST_NODES, SLOT, STEP_CODES};
+use crate::tally::Tally;
+use oracle_list::form::{hex, is_comment};
+use oracle_list::random::Random;
+use std::fmt::Write;
+
+/// A line that is longer is drawn again, so that the file stays small.
+const LONGEST_LINE: usize = 9000;
+
+const FORM: &str = "\
+# Plan calls with the answers of the original text, walked step by step.
+# One a line, six fields separated by a blank: plan work_len leaves code value result
+#   plan      the plan's bytes in lower-case hex, - for none
+#   work_len  the length of the work buffer, in bytes
+#   leaves    the leaf sheets' bytes in node order, hex, joined by commas, - for none. Sheet i stands at byte
+#             1284 * i of the work buffer; every byte of the buffer that is in no leaf sheet is a5 before the call.
+#             Beside a malformed plan or a short buffer they are the sheets that were laid out all the same.
+#   code      0, or the refusal's number
+#   value     the node count, or the node refused (65535 with 1 and 27)
+#   result    the sheets of the steps that were derived, hex in node order, joined by commas, - for none. Each stands at
+#             the start of its node's slot after the call, the first step's node being the leaf count; every other byte
+#             of the work buffer is as it was, also after a refusal.
+";
+
+/// The whole file. Same seed, same bytes.
+pub fn text(seed: u64) -> String {
+    let mut random = Random::new(seed);
+    let mut out = format!("{FORM}# Made by `compare store-plans --seed {seed}`.\n");
+    accepted(&mut random, &mut out);
+    for late in [false, true] {
+        let place = if late {
+            "behind accepted steps"
+        } else {
+            "at the first step that can be"
+        };
+        for code in STEP_CODES {
+            let _ = writeln!(out, "# refused with {code} {place}");
+            for _ in 0..4 {
+                push(
+                    &mut random,
+                    &mut out,
+                    |random| plans::refused_step(random, code, late).request(),
+                    |c| c == code,
+                );
+            }
+        }
+    }
+    for code in LEAF_CODES {
+        let _ = writeln!(out, "# a leaf refused with {code}");
+        for _ in 0..10 {
+            push(
+                &mut random,
+                &mut out,
+                |random| plans::refused_leaf(random, code).request(),
+                |c| c == code,
+            );
+        }
+    }
+    unfit(&mut random, &mut out);
+    out
+}
+
+/// Leaves alone, and every node count with steps.
+fn accepted(random: &mut Random, out: &mut String) {
+    out.push_str("# accepted, leaves alone\n");
+    for leaves in [1, 1, 2, 3, 5, 8, 16, MOST_NODES] {
+        let draw = |random: &mut Random| {
+            let mut sheets = Vec::new();
+            while sheets.len() < leaves {
+                sheets.extend(plans::accepted(random, leaves).leaves);
+            }
+            sheets.truncate(leaves);
+            Draft::new(sheets).request()
+        };
+        push(random, out, draw, |code| code == 0);
+    }
+    for nodes in 2..=MOST_NODES {
+        let _ = writeln!(out, "# accepted, {nodes} nodes");
+        for _ in 0..3 {
+            let draw = |random: &mut Random| loop {
+                let draft = plans::accepted(random, nodes);
+                if draft.nodes() == nodes && !draft.steps.is_empty() {
+                    return draft.request();
+                }
+            };
+            push(random, out, draw, |code| code == 0);
+        }
+    }
+}
+
+/// Malformed plans (also over buffers that are too short: 1 comes first), and short buffers.
+fn unfit(random: &mut Random, out: &mut String) {
+    out.push_str("# malformed\n");
+    for turn in 0..40 {
+        let draw = |random: &mut Random| {
+            let size = 1 + random.below(6);
+            let draft = plans::accepted(random, size);
+            let mut request = draft.request();
+            request.plan = plans::malform(random, &draft);
+            while names_ten(&request.plan) {
+                request.plan = plans::malform(random, &draft);
+            }
+            if turn % 5 == 0 {
+                shorten(random, &mut request);
+            }
+            request
+        };
+        push(random, out, draw, |code| code == 1);
+    }
+    out.push_str("# a work buffer that is too short\n");
+    for _ in 0..12 {
+        let draw = |random: &mut Random| {
+            let size = 1 + random.below(8);
+            let mut request = plans::accepted(random, size).request();
+            shorten(random, &mut request);
+            request
+        };
+        push(random, out, draw, |code| code == 27);
+    }
+}
+
+/// Component 10 is to get a meaning; a list made today stays away.
+fn names_ten(plan: &[u8]) -> bool {
+    let words = plan.get(4..).unwrap_or(&[]).chunks_exact(4);
+    words
+        .map(|word| u32::from_le_bytes(word.try_into().expect("four bytes")))
+        .any(|word| word == 10)
+}
+
+/// Only leaves that still fit are laid out.
+fn shorten(random: &mut Random, request: &mut Request) {
+    request.work_len = plans::short(random, request.work_len);
+    let length = request.work_len;
+    let fitting = request.leaves.iter().enumerate();
+    let count = fitting
+        .take_while(|(leaf, sheet)| SLOT * leaf + sheet.len() <= length)
+        .count();
+    request.leaves.truncate(count);
+}
+
+/// Draws until the answer is as wanted and the line is not too long.
+fn push(
+    random: &mut Random,
+    out: &mut String,
+    draw: impl Fn(&mut Random) -> Request,
+    wanted: impl Fn(u32) -> bool,
+) {
+    loop {
+        let request = draw(random);
+        let answer = plans::walk(&request.plan, &plans::lay_out(&request, FILLER));
+        let line = line(&request, &answer);
+        if wanted(answer.reply.0) && line.len() <= LONGEST_LINE {
+            out.push_str(&line);
+            return;
+        }
+    }
+}
+
+fn line(request: &Request, answer: &Expected) -> String {
+    format!(
+        "{} {} {} {} {} {}\n",
+        hex(&request.plan),
+        request.work_len,
+        joined(&request.leaves),
+        answer.reply.0,
+        answer.reply.1,
+        joined(&answer.derived)
+    )
+}
+
+fn joined(sheets: &[Vec<u8>]) -> String {
+    if sheets.is_empty() {
+        return "-".to_string();
+    }
+    sheets
+        .iter()
+        .map(|sheet| hex(sheet))
+        .collect::<Vec<_>>()
+        .join(",")
+}
+
+/// The stored plans, replayed by the plan calls.
+pub fn replay(text: &str) -> Result<Tally, String> {
+    let mut tally = Tally::default();
+    for (at, line) in text
+        .lines()
+        .enumerate()
+        .filter(|(_, line)| !is_comment(line))
+    {
+        let (request, wanted) = parse(line).map_err(|fault| format!("line {}: {fault}", at + 1))?;
+        plans::hold(&mut tally, &request, FILLER, &wanted);
+    }
+    Ok(tally)
+}
+
+fn parse(line: &str) -> Result<(Request, Expected), String> {
+    let fields: Vec<&str> = line.split(' ').collect();
+    let [plan, work_len, leaves, code, value, result] = fields[..] else {
+        return Err(format!("{} fields where 6 are wanted", fields.len()));
+    };
+    let number = |text: &str| {
+        text.parse::<u32>()
+            .map_err(|_| format!("`{text}` is no number"))
+    };
+    let request = Request {
+        plan: bytes(plan)?,
+        leaves: sheets(leaves)?,
+        work_len: number(work_len)? as usize,
+    };
+    let wanted = Expected {
+        reply: (number(code)?, number(value)?),
+        derived: sheets(result)?,
+    };
+    Ok((request, wanted))
+}
+
+fn sheets(text: &str) -> Result<Vec<Vec<u8>>, String> {
+    if text == "-" {
+        return Ok(Vec::new());
+    }
+    text.split(',').map(bytes).collect()
+}
+
+fn bytes(text: &str) -> Result<Vec<u8>, String> {
+    if text == "-" {
+        return Ok(Vec::new());
+    }
+    let digits: Option<Vec<u8>> = text
+        .chars()
+        .map(|c| c.to_digit(16).map(|d| d as u8))
+        .collect();
+    match digits {
+        Some(digits) if digits.len() % 2 == 0 => Ok(digits
+            .chunks(2)
+            .map(|pair| 16 * pair[0] + pair[1])
+            .collect()),
+        _ => Err(format!("`{text}` is not hex in pairs")),
+    }
+}
+
+#[cfg(test)]
+mod tests {
+    use super::{replay, text};
+
+    const STORED: &str = concat!(env!("CARGO_MANIFEST_DIR"), "/../vectors/plans.txt");
+
+    #[test]
+    fn the_stored_list_is_made_anew() {
+        let stored = std::fs::read_to_string(STORED).expect("vectors/plans.txt");
+        let seed = stored
+            .split("store-plans --seed ")
+            .nth(1)
+            .and_then(|rest| rest.split('`').next());
+        let seed = seed
+            .and_then(|seed| seed.parse().ok())
+            .expect("the seed in the file's comments");
+        assert!(
+            text(seed) == stored,
+            "vectors/plans.txt is not what its seed makes"
+        );
+    }
+
+    #[test]
+    fn the_stored_list_is_replayed() {
+        let tally = replay(&std::fs::read_to_string(STORED).expect("vectors/plans.txt")).unwrap();
+        assert_eq!(tally.differences, 0, "{tally}");
+        assert!(tally.total() >= 300, "{tally}");
+        for code in [0, 1, 3, 4, 5, 27].iter().chain(&crate::plans::STEP_CODES) {
+            assert!(tally.of(*code) > 0, "no {code}: {tally}");
+        }
+    }
+}
