@@ -1,0 +1,95 @@
+//! What a reader should know of the ranges that a card shows.
+//!
+//! The rules behind the first three notes are the original's, ported as they are; docs/DIFFERENCES.md has them in full.
+
+use super::{State, Walked};
+use crate::component::Component;
+use crate::nature::{Bound, Nature};
+use crate::sheet::Sheet;
+
+pub(super) fn of(walked: &Walked) -> Vec<String> {
+    let derived = |node: &usize| walked.state(*node) == State::Derived;
+    let mut notes: Vec<String> = (0..walked.nodes()).filter(derived).flat_map(|node| of_step(walked, node)).collect();
+    if (0..walked.nodes()).any(|node| any_entry(walked.sheet(node), |(l, u)| l == Bound::Absent || u == Bound::Absent)) {
+        notes.push("-inf and +inf stand for an end that sets no bound.".to_string());
+    }
+    notes
+}
+
+fn any_entry(sheet: Option<&Sheet>, test: impl Fn((Bound, Bound)) -> bool) -> bool {
+    let Some(Sheet { nature, .. }) = sheet else {
+        return false;
+    };
+    (0..nature.lists()).filter_map(|place| nature.entry(place)).any(test)
+}
+
+fn of_step(walked: &Walked, node: usize) -> Vec<String> {
+    let mut notes = Vec::new();
+    let name = format!("node {node} `{}`", walked.name(node));
+    if let Some(reason) = too_narrow(walked, node) {
+        notes.push(format!("{name}: {reason}; results may lie outside of the range shown."));
+    }
+    if marked_by_left(walked, node) {
+        notes.push(format!("{name}: it has left's marks and so counts as releasable, while right is private."));
+    }
+    let sheet = walked.sheet(node);
+    if any_entry(sheet, infinite) {
+        notes.push(format!("{name}: a float end overflowed; a step that uses this node is refused with 5."));
+    } else if any_entry(sheet, exceeds) {
+        notes.push(format!("{name}: a lower end exceeds its upper; a step that uses this node is refused with 5."));
+    }
+    notes
+}
+
+/// The two rules whose ranges need not hold every result.
+fn too_narrow(walked: &Walked, node: usize) -> Option<&'static str> {
+    let step = walked.plan.plan.step_of(node)?;
+    let (left, right) = (walked.sheet(step.left)?, walked.sheet(step.right)?);
+    let ranges = left.nature.is_range() && right.nature.is_range();
+    match step.component {
+        Component::Subtract if ranges && any_entry(Some(right), |(lower, upper)| !is_point(lower, upper)) => {
+            Some("subtract takes lower - lower and upper - upper")
+        }
+        Component::Divide if ranges && one_zero_end(&left.nature, &right.nature) => {
+            Some("divide by a range with one end at zero takes its end from the other one")
+        }
+        _ => None,
+    }
+}
+
+/// Modulo, log and power copy left's marks, whatever right's are.
+fn marked_by_left(walked: &Walked, node: usize) -> bool {
+    let Some(step) = walked.plan.plan.step_of(node) else {
+        return false;
+    };
+    let releasable = |node| walked.sheet(node).is_some_and(|sheet| sheet.releasable);
+    step.component.copies_left() && releasable(step.left) && !releasable(step.right)
+}
+
+/// A single number, of which lower − lower and upper − upper are right.
+fn is_point(lower: Bound, upper: Bound) -> bool {
+    lower != Bound::Absent && lower == upper
+}
+
+fn one_zero_end(left: &Nature, right: &Nature) -> bool {
+    let zero = |bound| matches!(bound, Bound::Whole(0)) || matches!(bound, Bound::Float(end) if end == 0.0);
+    let present = |(lower, upper)| lower != Bound::Absent && upper != Bound::Absent;
+    let columns = left.lists().max(right.lists());
+    (0..columns).any(|column| match (left.entry_for(column), right.entry_for(column)) {
+        (Some(left), Some(right)) => present(left) && present(right) && zero(right.0) != zero(right.1),
+        _ => false,
+    })
+}
+
+fn infinite((lower, upper): (Bound, Bound)) -> bool {
+    let infinite = |bound| matches!(bound, Bound::Float(end) if end.is_infinite());
+    infinite(lower) || infinite(upper)
+}
+
+fn exceeds((lower, upper): (Bound, Bound)) -> bool {
+    match (lower, upper) {
+        (Bound::Whole(lower), Bound::Whole(upper)) => lower > upper,
+        (Bound::Float(lower), Bound::Float(upper)) => lower > upper,
+        _ => false,
+    }
+}

@@ -1,0 +1,145 @@
+//! What a sheet says of an array's values: ranges or categories.
+
+/// One end of a range.
+#[derive(Clone, Copy, Debug, PartialEq)]
+pub enum Bound {
+    /// The end sets no bound.
+    Absent,
+    /// A whole number.
+    Whole(i64),
+    /// A float.
+    Float(f64),
+}
+
+/// The two ends of a range entry; an end that is `None` sets no bound.
+#[derive(Clone, Copy, Debug, PartialEq)]
+pub struct Ends<T> {
+    /// Lower end.
+    pub lower: Option<T>,
+    /// Upper end.
+    pub upper: Option<T>,
+}
+
+impl<T> Ends<T> {
+    /// Both ends present.
+    pub fn between(lower: T, upper: T) -> Ends<T> {
+        Ends { lower: Some(lower), upper: Some(upper) }
+    }
+}
+
+impl<T> From<[T; 2]> for Ends<T> {
+    fn from([lower, upper]: [T; 2]) -> Ends<T> {
+        Ends::between(lower, upper)
+    }
+}
+
+/// The nature of an array. Ranges have one entry per column, or one for all; categories one list per column, or one for all.
+#[derive(Clone, Debug)]
+pub enum Nature {
+    /// Nothing is stated.
+    Absent,
+    /// Ranges of whole numbers.
+    WholeRange(Vec<Ends<i64>>),
+    /// Ranges of floats.
+    FloatRange(Vec<Ends<f64>>),
+    /// Lists of whole numbers.
+    WholeCategories(Vec<Vec<i64>>),
+    /// Lists of booleans.
+    BoolCategories(Vec<Vec<bool>>),
+    /// Lists of floats.
+    FloatCategories(Vec<Vec<f64>>),
+}
+
+impl Nature {
+    /// Whole ranges with both ends present.
+    ///
+    /// ```
+    /// use gate_runtime::{Bound, Nature};
+    /// let nature = Nature::whole_range(&[[-5, 3], [0, 7]]);
+    /// assert_eq!(nature.entry(1), Some((Bound::Whole(0), Bound::Whole(7))));
+    /// ```
+    pub fn whole_range(entries: &[[i64; 2]]) -> Nature {
+        Nature::WholeRange(entries.iter().map(|&entry| entry.into()).collect())
+    }
+
+    /// Float ranges with both ends present.
+    pub fn float_range(entries: &[[f64; 2]]) -> Nature {
+        Nature::FloatRange(entries.iter().map(|&entry| entry.into()).collect())
+    }
+
+    /// Document 01's number.
+    pub fn number(&self) -> u8 {
+        match self {
+            Nature::Absent => 0,
+            Nature::WholeRange(_) => 1,
+            Nature::FloatRange(_) => 2,
+            Nature::WholeCategories(_) => 3,
+            Nature::BoolCategories(_) => 4,
+            Nature::FloatCategories(_) => 5,
+        }
+    }
+
+    /// Its name in plain words.
+    pub fn name(&self) -> &'static str {
+        match self {
+            Nature::Absent => "absent",
+            Nature::WholeRange(_) => "whole range",
+            Nature::FloatRange(_) => "float range",
+            Nature::WholeCategories(_) => "whole categories",
+            Nature::BoolCategories(_) => "bool categories",
+            Nature::FloatCategories(_) => "float categories",
+        }
+    }
+
+    /// Whether it is a range, whole or float.
+    pub fn is_range(&self) -> bool {
+        matches!(self, Nature::WholeRange(_) | Nature::FloatRange(_))
+    }
+
+    /// Range entries or category lists.
+    pub fn lists(&self) -> usize {
+        match self {
+            Nature::Absent => 0,
+            Nature::WholeRange(entries) => entries.len(),
+            Nature::FloatRange(entries) => entries.len(),
+            Nature::WholeCategories(lists) => lists.len(),
+            Nature::BoolCategories(lists) => lists.len(),
+            Nature::FloatCategories(lists) => lists.len(),
+        }
+    }
+
+    /// Categories over all lists.
+    pub fn categories(&self) -> usize {
+        match self {
+            Nature::WholeCategories(lists) => lists.iter().map(Vec::len).sum(),
+            Nature::BoolCategories(lists) => lists.iter().map(Vec::len).sum(),
+            Nature::FloatCategories(lists) => lists.iter().map(Vec::len).sum(),
+            _ => 0,
+        }
+    }
+
+    /// Lower and upper bound of the entry at this place, counted from 0.
+    pub fn entry(&self, place: usize) -> Option<(Bound, Bound)> {
+        match self {
+            Nature::WholeRange(entries) => entries.get(place).map(whole_bounds),
+            Nature::FloatRange(entries) => entries.get(place).map(float_bounds),
+            _ => None,
+        }
+    }
+
+    /// The entry that column `column` goes by: its own, or the only one.
+    pub fn entry_for(&self, column: usize) -> Option<(Bound, Bound)> {
+        let place = if self.lists() == 1 { 0 } else { column };
+        self.entry(place)
+    }
+}
+
+fn whole_bounds(ends: &Ends<i64>) -> (Bound, Bound) {
+    let bound = |end: Option<i64>| end.map_or(Bound::Absent, Bound::Whole);
+    (bound(ends.lower), bound(ends.upper))
+}
+
+fn float_bounds(ends: &Ends<f64>) -> (Bound, Bound) {
+    let bound = |end: Option<f64>| end.map_or(Bound::Absent, Bound::Float);
+    (bound(ends.lower), bound(ends.upper))
+}

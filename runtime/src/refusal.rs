@@ -1,0 +1,195 @@
+//! The refusals of document 01.
+
+use std::error::Error;
+use std::fmt;
+
+/// Why a call said no. The discriminant is document 01's number.
+#[derive(Clone, Copy, Debug, PartialEq, Eq, Hash, PartialOrd, Ord)]
+pub enum Refusal {
+    /// 1: The plan is malformed.
+    MalformedPlan = 1,
+    /// 2: The component is not 1 to 9.
+    NoSuchComponent = 2,
+    /// 3: A sheet's size exceeds its limit, or its length isn't what its sizes call for.
+    SheetSize = 3,
+    /// 4: A field has none of its permitted values.
+    FieldValue = 4,
+    /// 5: A float bound is infinite or NaN, or a lower bound exceeds its upper.
+    BadBound = 5,
+    /// 6: An operand that isn't releasable has an aggregator.
+    Aggregated = 6,
+    /// 7: An operand that isn't releasable has a sample proportion present and not equal to 1.
+    Sampled = 7,
+    /// 8: Neither operand is releasable and their groups differ.
+    GroupsDiffer = 8,
+    /// 9: Neither operand is releasable and their dataset ids differ.
+    DatasetsDiffer = 9,
+    /// 10: Neither operand is releasable and their c-stabilities differ.
+    StabilitiesDiffer = 10,
+    /// 11: A column count is absent.
+    NoColumnCount = 11,
+    /// 12: The column counts differ and neither is 1.
+    ColumnsDiffer = 12,
+    /// 13: The row counts clash.
+    RowsClash = 13,
+    /// 14: The data types don't suit the component.
+    DataTypes = 14,
+    /// 15: The bounds that log, modulo or power read are not ranges of the wanted kind, or one is absent.
+    BoundsUnsuited = 15,
+    /// 16: The bounds that log, modulo or power read break the component's condition.
+    BoundsCondition = 16,
+    /// 17: One range is whole, the other float.
+    MixedRanges = 17,
+    /// 18: A range list has neither one entry nor one per output column.
+    BoundListCount = 18,
+    /// 19: Float categories are to be combined or mapped.
+    FloatCategories = 19,
+    /// 20: A category operand has no lists.
+    NoCategoryLists = 20,
+    /// 21: The category kinds differ.
+    CategoryKindsDiffer = 21,
+    /// 22: The component has no rule for this category kind.
+    NoCategoryRule = 22,
+    /// 23: Divide may meet zero.
+    DivideMayMeetZero = 23,
+    /// 24: Whole-number arithmetic leaves 64 signed bits, or a category divides by zero.
+    WholeOverflow = 24,
+    /// 25: A category under power overflows.
+    PowerCategoryOverflow = 25,
+    /// 26: The result holds over 128 categories, counted as they would be written.
+    TooManyCategories = 26,
+    /// 27: The output is too short.
+    OutputTooShort = 27,
+}
+
+/// A refusal, its sentence, and what a person can do about it.
+type Row = (Refusal, &'static str, &'static str);
+
+/// By number.
+const TABLE: [Row; 27] = [
+    (Refusal::MalformedPlan, "The plan is malformed.",
+     "The bytes of a plan have another length than its sizes call for, there are no nodes or more than 32, no leaves or more leaves than nodes, a component is not 1 to 9, an operand is not an earlier node, or abs or negative names two different operands. The command `gate cards` writes plans that never meet it."),
+    (Refusal::NoSuchComponent, "The component is not 1 to 9.",
+     "Only a single call can meet it; in a plan the same fault is refusal 1."),
+    (Refusal::SheetSize, "A sheet's size exceeds its limit, or its length isn't what its sizes call for.",
+     "A sheet holds at most 4 groups, 16 ranges or category lists, and 128 categories over all its lists."),
+    (Refusal::FieldValue, "A field has none of its permitted values.",
+     "Columns are 1 to 16; marks are 0 or 1; natures, data types and kinds have their listed numbers; list numbers never fall and stay below the list count; absent values and reserved bytes are zero."),
+    (Refusal::BadBound, "A float bound is infinite or NaN, or a lower bound exceeds its upper.",
+     "A leaf's range must have its lower end first. A derived range can come out this way too, by subtract of two ranges or by a float overflow: the step that made it is accepted, and the step that reads it is refused."),
+    (Refusal::Aggregated, "An operand that isn't releasable has an aggregator.",
+     "A private result of an aggregation takes no further steps. Release it first, or leave the step out."),
+    (Refusal::Sampled, "An operand that isn't releasable has a sample proportion present and not equal to 1.",
+     "Leave the sample proportion out, or set it to 1. Abs and negative do not look at it."),
+    (Refusal::GroupsDiffer, "Neither operand is releasable and their groups differ.",
+     "Two private operands must have the same groups, in the same order."),
+    (Refusal::DatasetsDiffer, "Neither operand is releasable and their dataset ids differ.",
+     "Two private operands must come from the same dataset. An absent dataset id differs from every present one."),
+    (Refusal::StabilitiesDiffer, "Neither operand is releasable and their c-stabilities differ.",
+     "Two private operands must have the same c-stability."),
+    (Refusal::NoColumnCount, "A column count is absent.",
+     "State the columns of the leaf. Modulo, log and power read only left's count."),
+    (Refusal::ColumnsDiffer, "The column counts differ and neither is 1.",
+     "Two operands must have as many columns as each other, or one of them a single column, which then goes with each of the other's."),
+    (Refusal::RowsClash, "The row counts clash.",
+     "Rows must be equal and present on both sides, or both operands come from one dataset, or one operand is releasable with 1 row and goes with every row of the other."),
+    (Refusal::DataTypes, "The data types don't suit the component.",
+     "Add, subtract, multiply and divide need equal types; modulo and power need both int or both float; log needs a left operand of type float; abs and negative take any."),
+    (Refusal::BoundsUnsuited, "The bounds that log, modulo or power read are not ranges of the wanted kind, or one is absent.",
+     "Modulo reads right's lower ends, power of type int right's lower ends, log both ends of the base (right) and the lower ends of the data (left). These must be ranges with the ends present; modulo and power of type int want whole ranges; log takes no whole data under a whole base."),
+    (Refusal::BoundsCondition, "The bounds that log, modulo or power read break the component's condition.",
+     "Modulo: right's lower ends are above 0. Power of type int: right's lower ends are 0 or above. Log: in each entry the base lies within (0, 1) or starts above 1, and the data's lower ends are above 0."),
+    (Refusal::MixedRanges, "One range is whole, the other float.",
+     "Write both ranges as whole or both as float."),
+    (Refusal::BoundListCount, "A range list has neither one entry nor one per output column.",
+     "Write one range for all columns, or one for each. The output of modulo, log and power has left's columns."),
+    (Refusal::FloatCategories, "Float categories are to be combined or mapped.",
+     "No component computes with float categories. Use a float range, or whole categories."),
+    (Refusal::NoCategoryLists, "A category operand has no lists.",
+     "Write at least one category list."),
+    (Refusal::CategoryKindsDiffer, "The category kinds differ.",
+     "Both operands need categories of one kind."),
+    (Refusal::NoCategoryRule, "The component has no rule for this category kind.",
+     "No component computes with bool categories, and power of type float with no categories at all."),
+    (Refusal::DivideMayMeetZero, "Divide may meet zero.",
+     "It is said of a divisor whose lower end is absent while its upper end is absent or is 0 or above, and of one whose upper end is absent while its lower end is 0 or below. State the missing end, or a divisor on one side of zero."),
+    (Refusal::WholeOverflow, "Whole-number arithmetic leaves 64 signed bits, or a category divides by zero.",
+     "Narrow the ranges, or take the zero out of the divisor's categories. Abs adds the two ends of its range, and that sum must fit too."),
+    (Refusal::PowerCategoryOverflow, "A category under power overflows.",
+     "No call can meet it: power of type int wants a range on its right (15), and power of type float has no category rule (22). The number is kept because document 01 lists it."),
+    (Refusal::TooManyCategories, "The result holds over 128 categories, counted as they would be written.",
+     "Repeats within a list are dropped before counting, except those that abs and negative make. A single list goes with every output column and then counts once for each."),
+    (Refusal::OutputTooShort, "The output is too short.",
+     "A single call needs as many bytes as the derived sheet has, at most 1,284. A plan call needs 1,284 bytes of work buffer for each node. The command `gate cards` always lends enough."),
+];
+
+impl Refusal {
+    /// All of them, by number.
+    ///
+    /// ```
+    /// use gate_runtime::Refusal;
+    /// assert_eq!(Refusal::all().count(), 27);
+    /// ```
+    pub fn all() -> impl Iterator<Item = Refusal> {
+        TABLE.iter().map(|row| row.0)
+    }
+
+    /// Document 01's number.
+    pub fn code(self) -> u32 {
+        self as u32
+    }
+
+    /// The refusal with this number; 0 is acceptance, and like every other number none.
+    ///
+    /// ```
+    /// use gate_runtime::Refusal;
+    /// assert_eq!(Refusal::from_code(23), Some(Refusal::DivideMayMeetZero));
+    /// assert_eq!(Refusal::from_code(0), None);
+    /// ```
+    pub fn from_code(code: u32) -> Option<Refusal> {
+        Refusal::all().find(|refusal| refusal.code() == code)
+    }
+
+    /// Document 01's sentence.
+    pub fn sentence(self) -> &'static str {
+        self.row().1
+    }
+
+    /// What it means and what can be done about it.
+    ///
+    /// ```
+    /// use gate_runtime::Refusal;
+    /// assert!(Refusal::PowerCategoryOverflow.explain().starts_with("No call can meet it"));
+    /// ```
+    pub fn explain(self) -> &'static str {
+        self.row().2
+    }
+
+    /// Rows stand by number, from 1.
+    fn row(self) -> &'static Row {
+        &TABLE[self as usize - 1]
+    }
+}
+
+impl fmt::Display for Refusal {
+    fn fmt(&self, f: &mut fmt::Formatter<'_>) -> fmt::Result {
+        write!(f, "{}: {}", self.code(), self.sentence())
+    }
+}
+
+impl Error for Refusal {}
+
+#[cfg(test)]
+mod tests {
+    use super::*;
+
+    #[test]
+    fn rows_stand_by_number() {
+        for (place, refusal) in Refusal::all().enumerate() {
+            assert_eq!(refusal.code() as usize, place + 1);
+            assert_eq!(Refusal::from_code(refusal.code()), Some(refusal));
+            assert!(refusal.sentence().ends_with('.') && refusal.explain().ends_with('.'));
+        }
+        assert_eq!(Refusal::from_code(28), None);
+    }
+}

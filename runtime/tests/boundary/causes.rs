@@ -1,0 +1,77 @@
+//! Whatever a proved call refuses, a cause is found.
+
+use crate::made::{component, sheet, Draws};
+use gate_runtime::causes::{self, Call, NO_CAUSE};
+use gate_runtime::form::plan::SLOT;
+use gate_runtime::{propagate_property, Refusal};
+use std::collections::BTreeSet;
+use std::fs;
+
+/// Makes the call; gives the number if it is refused, and checks that the cause is found.
+fn refused(component: u32, left: &[u8], right: &[u8], out_len: usize) -> Option<u32> {
+    let mut out = vec![0; out_len];
+    let refusal = propagate_property(component, 1, left, right, &mut out).err()?;
+    let call = Call { component, left, right, out_len, names: ["a", "b"] };
+    let texts = causes::of_single(refusal, &call);
+    let text = texts.join("; ");
+    assert!(!texts.is_empty() && !text.contains(NO_CAUSE), "{refusal}: no cause for component {component}, {left:?}, {right:?}");
+    if refusal.code() == 24 {
+        assert!(text.contains("leaves 64 signed bits") || text.contains("divides by zero"), "{text}");
+    }
+    Some(refusal.code())
+}
+
+/// No arithmetic cause is found in operands that the proved call accepts.
+fn accepted_has_no_cause(component: u32, left: &[u8], right: &[u8]) {
+    let call = Call { component, left, right, out_len: SLOT, names: ["a", "b"] };
+    let none = |refusal| assert_eq!(causes::of_single(refusal, &call), [NO_CAUSE], "{refusal}: {left:?}, {right:?}");
+    none(Refusal::SheetSize);
+    none(Refusal::FieldValue);
+    none(Refusal::BadBound);
+    none(Refusal::Aggregated);
+    match component {
+        1..=4 | 9 => none(Refusal::WholeOverflow),
+        5 => [Refusal::WholeOverflow, Refusal::DivideMayMeetZero].into_iter().for_each(none),
+        _ => none(Refusal::Sampled),
+    }
+}
+
+#[test]
+fn generated_calls_have_causes() {
+    let mut draws = Draws::new(20_261_115);
+    let mut seen = BTreeSet::new();
+    let mut accepted = 0;
+    for _ in 0..60_000 {
+        let (left, right) = (sheet(&mut draws).encode(), sheet(&mut draws).encode());
+        let out_len = if draws.one_in(20) { 100 } else { SLOT };
+        let component = component(&mut draws).number();
+        match refused(component, &left, &right, out_len) {
+            Some(number) => drop(seen.insert(number)),
+            None => {
+                accepted += 1;
+                accepted_has_no_cause(component, &left, &right);
+            }
+        }
+    }
+    let wanted: BTreeSet<u32> = (5..=27).filter(|number| *number != 25).collect();
+    assert_eq!(seen, wanted);
+    assert!(accepted > 5_000, "{accepted} calls were accepted");
+}
+
+/// The repository's stored calls are inputs here; their answers are compared elsewhere.
+#[test]
+fn stored_calls_have_causes() {
+    let list = concat!(env!("CARGO_MANIFEST_DIR"), "/../vectors/single_calls.txt");
+    let text = fs::read_to_string(list).expect("the stored list is part of the repository");
+    let bytes = |hex: &str| -> Vec<u8> {
+        let digits = hex.trim_start_matches('-');
+        (0..digits.len() / 2).map(|k| u8::from_str_radix(&digits[2 * k..2 * k + 2], 16).unwrap()).collect()
+    };
+    let mut refusals = 0;
+    for line in text.lines().filter(|line| !line.starts_with('#')) {
+        let words: Vec<&str> = line.split(' ').collect();
+        let (component, out_len) = (words[0].parse().unwrap(), words[4].parse().unwrap());
+        refusals += usize::from(refused(component, &bytes(words[2]), &bytes(words[3]), out_len).is_some());
+    }
+    assert!(refusals > 1_000, "{refusals} refusals in the stored list");
+}

@@ -1,0 +1,143 @@
+//! Sheets and calls that the tests make.
+
+use gate_runtime::{Component, DataType, Ends, Group, Key, Nature, Sheet};
+
+/// Releasable, 1 row, so that 6 to 10 and 13 stay silent.
+pub fn plain(data_type: DataType, nature: Nature) -> Sheet {
+    Sheet::new(data_type, nature).with_rows(1).released()
+}
+
+pub fn whole(entries: &[[i64; 2]]) -> Sheet {
+    plain(DataType::Int, Nature::whole_range(entries))
+}
+
+pub fn float(entries: &[[f64; 2]]) -> Sheet {
+    plain(DataType::Float, Nature::float_range(entries))
+}
+
+pub fn whole_ends(lower: Option<i64>, upper: Option<i64>) -> Sheet {
+    plain(DataType::Int, Nature::WholeRange(vec![Ends { lower, upper }]))
+}
+
+pub fn listed(lists: &[&[i64]]) -> Sheet {
+    let lists = lists.iter().map(|list| list.to_vec()).collect();
+    plain(DataType::Int, Nature::WholeCategories(lists))
+}
+
+/// The same sheet, changed.
+pub fn but(mut sheet: Sheet, change: impl Fn(&mut Sheet)) -> Sheet {
+    change(&mut sheet);
+    sheet
+}
+
+pub fn private(sheet: Sheet) -> Sheet {
+    but(sheet, |s| s.releasable = false)
+}
+
+/// Numbers from a seed (xorshift), so that every run makes the same ones.
+pub struct Draws(u64);
+
+impl Draws {
+    pub fn new(seed: u64) -> Draws {
+        Draws(seed)
+    }
+
+    pub fn next(&mut self) -> u64 {
+        self.0 ^= self.0 << 13;
+        self.0 ^= self.0 >> 7;
+        self.0 ^= self.0 << 17;
+        self.0
+    }
+
+    pub fn below(&mut self, limit: usize) -> usize {
+        (self.next() >> 16) as usize % limit
+    }
+
+    pub fn one_in(&mut self, count: usize) -> bool {
+        self.below(count) == 0
+    }
+
+    pub fn pick<T: Copy>(&mut self, items: &[T]) -> T {
+        items[self.below(items.len())]
+    }
+
+    fn optional<T>(&mut self, value: T) -> Option<T> {
+        (!self.one_in(6)).then_some(value)
+    }
+}
+
+const WHOLES: [i64; 14] = [0, 1, 2, 3, -1, -2, 7, 100, -100, 1 << 62, -(1 << 62), i64::MAX, i64::MIN, -3];
+const FLOATS: [f64; 10] = [0.0, -0.0, 0.5, 1.0, 1.5, 2.0, -3.25, 1.7e308, -1.7e308, 0.25];
+
+fn whole_entry(draws: &mut Draws) -> Ends<i64> {
+    let (a, b) = (draws.pick(&WHOLES), draws.pick(&WHOLES));
+    let (lower, upper) = if draws.one_in(40) { (a, b) } else { (a.min(b), a.max(b)) };
+    Ends { lower: draws.optional(lower), upper: draws.optional(upper) }
+}
+
+fn float_entry(draws: &mut Draws) -> Ends<f64> {
+    let (a, b) = (draws.pick(&FLOATS), draws.pick(&FLOATS));
+    Ends { lower: draws.optional(a.min(b)), upper: draws.optional(a.max(b)) }
+}
+
+/// Lists of up to `most` members each, or one long list now and then.
+fn some_lists<T>(draws: &mut Draws, lists: usize, mut member: impl FnMut(&mut Draws) -> T) -> Vec<Vec<T>> {
+    let most = if lists == 1 && draws.one_in(8) { 60 } else { 5 };
+    (0..lists).map(|_| (0..draws.below(most + 1)).map(|_| member(draws)).collect()).collect()
+}
+
+fn nature(draws: &mut Draws, lists: usize) -> Nature {
+    let times = |draws: &mut Draws, value: fn(&mut Draws) -> Ends<f64>| (0..lists).map(|_| value(draws)).collect();
+    match draws.below(11) {
+        0 => Nature::Absent,
+        1..=4 => Nature::WholeRange((0..lists).map(|_| whole_entry(draws)).collect()),
+        5..=6 => Nature::FloatRange(times(draws, float_entry)),
+        7..=8 => Nature::WholeCategories(some_lists(draws, lists, |d| match d.below(3) {
+            0 => d.pick(&WHOLES),
+            _ => d.below(1000) as i64 - 500,
+        })),
+        9 => Nature::BoolCategories(some_lists(draws, lists, |d| d.one_in(2))),
+        _ => Nature::FloatCategories(some_lists(draws, lists, |d| match d.below(9) {
+            0 => f64::NAN,
+            1 => f64::INFINITY,
+            _ => d.pick(&FLOATS),
+        })),
+    }
+}
+
+fn groups(draws: &mut Draws) -> Vec<Group> {
+    let count = if draws.one_in(8) { draws.below(4) + 1 } else { 0 };
+    let key = |draws: &mut Draws| match draws.below(3) {
+        0 => Key::Int(draws.pick(&WHOLES)),
+        1 => Key::Bool(draws.one_in(2)),
+        _ => Key::Str(draws.below(5) as i64),
+    };
+    (0..count).map(|_| Group { partition: draws.next() as u32, key: key(draws) }).collect()
+}
+
+/// A sheet that passes 3 and 4, with every field stated now and then.
+pub fn sheet(draws: &mut Draws) -> Sheet {
+    let columns = draws.pick(&[1, 1, 1, 2, 3]);
+    let lists = if draws.one_in(8) { draws.below(5) } else { draws.pick(&[1, columns]) };
+    let nature = nature(draws, lists);
+    let data_type = draws.pick(&[DataType::Int, DataType::Int, DataType::Int, DataType::Float, DataType::Float, DataType::Str]);
+    let mut sheet = Sheet::new(data_type, nature);
+    sheet.columns = if draws.one_in(20) { None } else { Some(columns as i64) };
+    sheet.rows = if draws.one_in(5) { None } else { Some(draws.pick(&[1, 1, 1, 5])) };
+    sheet.dataset = if draws.one_in(3) { None } else { Some(draws.pick(&[1, 1, 2])) };
+    sheet.releasable = !draws.one_in(3);
+    sheet.nullity = draws.one_in(2);
+    sheet.not_empty = draws.one_in(2);
+    sheet.ordered = draws.one_in(2);
+    sheet.c_stability = draws.pick(&[1, 1, 1, 1, 2]);
+    sheet.aggregator = if draws.one_in(12) { std::num::NonZeroU32::new(3) } else { None };
+    sheet.sample = if draws.one_in(8) { Some(draws.pick(&[1.0, 0.5, f64::NAN])) } else { None };
+    sheet.dimensionality = if draws.one_in(2) { Some(2) } else { None };
+    sheet.node = draws.next() as i64;
+    sheet.groups = groups(draws);
+    sheet
+}
+
+pub fn component(draws: &mut Draws) -> Component {
+    draws.pick(&Component::ALL)
+}

@@ -1,0 +1,8 @@
+//! Both proved calls from Rust: every refusal, every lent byte, threads, and the forms of sheets and plans.
+
+mod canaries;
+mod causes;
+mod made;
+mod refusals;
+mod round_trips;
+mod threads;

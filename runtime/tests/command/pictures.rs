@@ -1,0 +1,119 @@
+//! JSON and pictures say what the card says.
+
+use crate::{example_names, gate, json_reader, root, xml_reader};
+use gate_runtime::cards::{Card, Outcome};
+use gate_runtime::{json, svg};
+use std::fs;
+
+fn card(name: &str) -> Card {
+    let file = format!("examples/{name}.plan");
+    Card::of(&file, &fs::read(root().join(&file)).unwrap())
+}
+
+fn picture(card: &Card) -> Vec<String> {
+    let Outcome::Walked(walked) = &card.outcome else { panic!("{} has no picture", card.file) };
+    xml_reader::read(&svg::picture(&card.file, walked)).unwrap()
+}
+
+#[test]
+fn json_of_every_example_can_be_read() {
+    for name in example_names() {
+        let run = gate(&["cards", "--json", &format!("examples/{name}.plan")]);
+        let document = json_reader::read(&run.out).unwrap_or_else(|error| panic!("{name}: {error}"));
+        let plan = &document.at("plans").list()[0];
+        assert_eq!(plan.at("file").text(), format!("examples/{name}.plan"));
+        let codes = [("accepted", 0), ("refused", 1), ("malformed", 2)];
+        let code = codes.iter().find(|(word, _)| *word == plan.at("outcome").text()).expect("a known outcome").1;
+        assert_eq!(run.code, Some(code));
+        assert_eq!(run.err, "");
+    }
+}
+
+#[test]
+fn json_says_what_the_card_says() {
+    let document = json_reader::read(&json::document(&[card("ratio")]).write()).unwrap();
+    let plan = &document.at("plans").list()[0];
+    let flow = &plan.at("nodes").list()[1];
+    assert_eq!(flow.at("name").text(), "flow");
+    let second = &flow.at("sheet").at("ranges").list()[1];
+    assert_eq!((second.at("lower"), second.at("upper").number()), (&json_reader::Value::Null, "4.0"));
+    assert_eq!(second.at("text").text(), "[-inf, +4.0]");
+    let refusal = plan.at("refusal");
+    assert_eq!((refusal.at("number").number(), refusal.at("name").text()), ("23", "per_flow"));
+    assert!(refusal.at("causes").list()[0].text().starts_with("column 2: left `heat`"));
+    let problems = json_reader::read(&json::document(&[card("misspelt")]).write()).unwrap();
+    let problems = problems.at("plans").list()[0].at("problems").list().to_vec();
+    assert_eq!(problems.len(), 4);
+    assert_eq!(problems[3].at("help").text(), "did you mean `sum`?");
+}
+
+#[test]
+fn json_keeps_every_number_exact() {
+    let source = format!("leaf a : int, whole [{}, {}], rows 1, releasable\n", i64::MIN, i64::MAX)
+        + "leaf b : float, float {nan, -inf, 0.1, -0.0}, sample nan\nleaf c : float, float [1e308, 1.7e308], rows 1, releasable\nd = add c c\n";
+    let text = json::document(&[Card::of("a \"quoted\"\\ name\u{1}", source.as_bytes())]).write();
+    let document = json_reader::read(&text).unwrap();
+    let plan = &document.at("plans").list()[0];
+    assert_eq!(plan.at("file").text(), "a \"quoted\"\\ name\u{1}");
+    let sheet = |node: usize| plan.at("nodes").list()[node].at("sheet").clone();
+    let range = sheet(0).at("ranges").list()[0].clone();
+    assert_eq!((range.at("lower").number(), range.at("upper").number()), ("-9223372036854775808", "9223372036854775807"));
+    let list = sheet(1).at("categories").list()[0].clone();
+    assert_eq!((list.list()[0].text(), list.list()[1].text()), ("nan", "-inf"));
+    assert_eq!((list.list()[2].number(), list.list()[3].number()), ("0.1", "-0.0"));
+    assert_eq!(sheet(3).at("ranges").list()[0].at("upper").text(), "inf");
+    assert_eq!(sheet(3).at("ranges").list()[0].at("text").text(), "[+overflow, +overflow]");
+}
+
+#[test]
+fn pictures_of_all_plans_are_well_formed_and_hold_the_ranges() {
+    for name in example_names().iter().filter(|name| *name != "misspelt") {
+        let card = card(name);
+        let texts = picture(&card);
+        let Outcome::Walked(walked) = &card.outcome else { panic!("{name} is a plan") };
+        for node in 0..walked.nodes() {
+            assert!(texts.iter().any(|text| text == walked.name(node)), "{name}: node {node}");
+            assert!(texts.contains(&format!("{node}: {}", walked.origin(node))), "{name}: node {node}");
+        }
+        if let Some(stop) = walked.stop() {
+            assert!(texts.contains(&format!("Refused: {}", stop.place)), "{name}: {}", stop.place);
+        }
+    }
+    assert!(picture(&card("pumps")).contains(&"1: [-0.612, +14.484]".to_string()));
+}
+
+#[test]
+fn a_file_name_cannot_break_a_picture() {
+    let card = Card::of("<&\"'>\u{1}\u{ffff}.plan", b"leaf a : int, whole [-5, 3]\nb = add a a\n");
+    assert!(picture(&card).contains(&"<&\"'>\u{fffd}\u{fffd}.plan: accepted".to_string()));
+}
+
+/// The deepest and the widest plan: boxes of a layer never overlap.
+#[test]
+fn boxes_do_not_overlap() {
+    let mut deep = "leaf n0 : int, whole [0, 1], rows 1, releasable\n".to_string();
+    (1..32).for_each(|k| deep += &format!("n{k} = add n{} n0\n", k - 1));
+    let mut wide: String = (0..16).map(|k| format!("leaf n{k} : int, whole [0, 1], rows 1, releasable\n")).collect();
+    (16..32).for_each(|k| wide += &format!("n{k} = multiply n{} n{}\n", k - 16, (k * 7) % 16));
+    for source in [deep, wide] {
+        let card = Card::of("f", source.as_bytes());
+        let Outcome::Walked(walked) = &card.outcome else { panic!("a plan") };
+        let text = svg::picture("f", walked);
+        let attribute = |tag: &str, name: &str| -> f64 {
+            let value = tag.split_once(&format!(" {name}=\"")).expect("the attribute").1;
+            value.split('"').next().and_then(|v| v.parse().ok()).expect("a number")
+        };
+        let boxes: Vec<[f64; 4]> = text
+            .lines()
+            .filter(|line| line.starts_with("<rect") && !line.contains("paper"))
+            .map(|line| ["x", "y", "width", "height"].map(|name| attribute(line, name)))
+            .collect();
+        assert_eq!(boxes.len(), 32);
+        for (place, a) in boxes.iter().enumerate() {
+            for b in &boxes[place + 1..] {
+                let apart = a[0] + a[2] < b[0] || b[0] + b[2] < a[0] || a[1] + a[3] < b[1] || b[1] + b[3] < a[1];
+                assert!(apart, "{a:?} and {b:?}");
+            }
+        }
+    }
+}
