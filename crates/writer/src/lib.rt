@@ -14,15 +14,7 @@ ghost use Rattle.writer.specs.Room.{Room, flagBytes, presenceBytes, fron
 use base::Head;
 use base::OptionI64;
 use base::OptionU64;
-
-// Where a sheet has the number of its groups.
-const GROUPS_AT: usize = 0;
-
-// Where its arrays begin.
-const ARRAYS_AT: usize = 80;
-
-// The bytes of a group, in both of its arrays.
-const GROUP_SIZE: usize = 13;
+use base::form;
 
 // A derived nature whose two arrays stand at the start of two lent buffers: lowers and uppers of a range, or list numbers and values of categories.
 pub struct Parts {
@@ -196,9 +188,15 @@ pub fn put_sheet(
     requires { ⌜ Room p (now first) (now second) (now source) (now buf) ⌝ }
     ensures { λ r. ⌜ Wrote (now (buf .entry)) 0 (80 + 13 * groupCount narrow (now (source .entry)) + p .first + p .second) (sheetFrom narrow (headFields head) node (groupsIn narrow (now (source .entry))) (partsIn p (now (first .entry)) (now (second .entry)))) (now (buf .exit)) r ⌝ }
 {
-    let groups = bytes::u16_at(source, GROUPS_AT);
+    let groups = bytes::u16_at(source, form::GROUPS_AT);
     let end = put_front(buf, groups, p, head, node);
-    let end = put_bytes(buf, end, source, ARRAYS_AT, GROUP_SIZE * (groups as usize));
+    let end = put_bytes(
+        buf,
+        end,
+        source,
+        form::ARRAYS_AT,
+        form::GROUP_WIDTH * (groups as usize),
+    );
     let end = put_bytes(buf, end, first, 0, p.first);
     put_bytes(buf, end, second, 0, p.second)
 }

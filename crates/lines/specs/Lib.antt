@@ -1,0 +1,4 @@
+pub mod Window
+pub mod Fields
+pub mod Digits
+pub mod Bytes

@@ -1,0 +1,143 @@
+-- `replay::single::compared` is safe and ends: what `bytes_of` put is within its buffer.
+-- Assumes nothing.
+use mathlib.Core.Path.{sym, subst}
+use lib.ListN.{length}
+use lib.Seq.{length-take-le}
+use Rattle.lines.specs.declared.Held.{Held}
+use Rattle.lines.specs.Bytes.{Within}
+use borrow.Author.Needs.{needs}
+use Rattle.replay.proofs.single.compared.Statement.{statement}
+use Rattle.replay.proofs.single.compared.Tie as tie
+
+field-requires : tie.Need-field-requires
+field-requires c κs = search needs
+
+bytes-of-requires : tie.Need-bytes-of-requires
+bytes-of-requires c κs = search needs
+
+enum-known-a : tie.Need-enum-known-a
+enum-known-a c = search needs
+
+enum-told : tie.Need-enum-told
+enum-told c = search needs
+
+same-length : tie.Need-same-length
+same-length c = search needs
+
+returns : tie.Need-returns
+returns c = search needs
+
+field-requires-2 : tie.Need-field-requires-2
+field-requires-2 c κs = search needs
+
+bytes-of-requires-2 : tie.Need-bytes-of-requires-2
+bytes-of-requires-2 c κs = search needs
+
+enum-known-b : tie.Need-enum-known-b
+enum-known-b c = search needs
+
+enum-told-2 : tie.Need-enum-told-2
+enum-told-2 c = search needs
+
+same-length-2 : tie.Need-same-length-2
+same-length-2 c = search needs
+
+same-length-3 : tie.Need-same-length-3
+same-length-3 c = search needs
+
+returns-2 : tie.Need-returns-2
+returns-2 c = search needs
+
+field-requires-3 : tie.Need-field-requires-3
+field-requires-3 c κs = search needs
+
+bytes-of-requires-3 : tie.Need-bytes-of-requires-3
+bytes-of-requires-3 c κs = search needs
+
+enum-known-c : tie.Need-enum-known-c
+enum-known-c c = search needs
+
+enum-told-3 : tie.Need-enum-told-3
+enum-told-3 c = search needs
+
+same-length-4 : tie.Need-same-length-4
+same-length-4 c = search needs
+
+same-length-5 : tie.Need-same-length-5
+same-length-5 c = search needs
+
+same-length-6 : tie.Need-same-length-6
+same-length-6 c = search needs
+
+returns-3 : tie.Need-returns-3
+returns-3 c = search needs
+
+slice-reshare-prefix-called : tie.Need-slice-reshare-prefix-called
+slice-reshare-prefix-called c = subst (λ (h : Held). Within h (length (c .before .before .before .before .before .before .before .before .before .before .before .before .before .before .before .before .before .before .before .before .before .bytes-of .last .1 .0))) (c .before .before .before .before .before .before .before .before .before .before .before .before .before .before .before .before .before .a .given .1) (c .before .before .before .before .before .before .before .before .before .before .before .before .before .before .before .before .before .before .before .before .before .bytes-of .ensures .1)
+
+slice-aggregate-called : tie.Need-slice-aggregate-called
+slice-aggregate-called c =
+    let left = c .before .before .before .before .before .before .before .before .before .before .before .before .before .before .before .before .before .before .before .before .before .before .bytes-of .last .1 .0 in
+    sym (length-take-le _ left (subst (λ (h : Held). Within h (length left)) (c .before .before .before .before .before .before .before .before .before .before .before .before .before .before .before .before .before .before .a .given .1) (c .before .before .before .before .before .before .before .before .before .before .before .before .before .before .before .before .before .before .before .before .before .before .bytes-of .ensures .1)))
+
+slice-reshare-prefix-called-2 : tie.Need-slice-reshare-prefix-called-2
+slice-reshare-prefix-called-2 c = subst (λ (h : Held). Within h (length (c .before .before .before .before .before .before .before .before .before .before .before .before .before .before .bytes-of2 .last .1 .0))) (c .before .before .before .before .before .before .before .before .before .before .b .given .1) (c .before .before .before .before .before .before .before .before .before .before .before .before .before .before .bytes-of2 .ensures .1)
+
+slice-aggregate-called-2 : tie.Need-slice-aggregate-called-2
+slice-aggregate-called-2 c =
+    let right = c .before .before .before .before .before .before .before .before .before .before .before .before .before .before .before .bytes-of2 .last .1 .0 in
+    sym (length-take-le _ right (subst (λ (h : Held). Within h (length right)) (c .before .before .before .before .before .before .before .before .before .before .before .b .given .1) (c .before .before .before .before .before .before .before .before .before .before .before .before .before .before .before .bytes-of2 .ensures .1)))
+
+called-requires : tie.Need-called-requires
+called-requires c κs = search needs
+
+same-length-7 : tie.Need-same-length-7
+same-length-7 c = search needs
+
+same-length-8 : tie.Need-same-length-8
+same-length-8 c = search needs
+
+same-length-9 : tie.Need-same-length-9
+same-length-9 c = search needs
+
+same-length-10 : tie.Need-same-length-10
+same-length-10 c = search needs
+
+returns-4 : tie.Need-returns-4
+returns-4 c = search needs
+
+pub compared-spec : {M : Type 1} → statement M
+compared-spec =
+    tie.close
+    (tie.spec
+    field-requires
+    bytes-of-requires
+    enum-known-a
+    enum-told
+    same-length
+    returns
+    field-requires-2
+    bytes-of-requires-2
+    enum-known-b
+    enum-told-2
+    same-length-2
+    same-length-3
+    returns-2
+    field-requires-3
+    bytes-of-requires-3
+    enum-known-c
+    enum-told-3
+    same-length-4
+    same-length-5
+    same-length-6
+    returns-3
+    slice-reshare-prefix-called
+    slice-aggregate-called
+    slice-reshare-prefix-called-2
+    slice-aggregate-called-2
+    called-requires
+    same-length-7
+    same-length-8
+    same-length-9
+    same-length-10
+    returns-4)
