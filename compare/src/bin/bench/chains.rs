@@ -253,3 +253,36 @@ pub fn longest() -> impl Iterator<Item = (&'static str, Request)> {
         .iter()
         .map(move |kind| (kind.name, chain(kind, nodes)))
 }
+
+#[cfg(test)]
+mod tests {
+    use super::*;
+
+    #[test]
+    fn a_chain_is_so_many_single_calls() {
+        for kind in &KINDS {
+            for nodes in NODES {
+                let trial = Trial::new(kind, nodes);
+                assert_eq!(trial.singles.calls.len(), nodes - 1);
+                assert_eq!(trial.leaves.leaves.len(), nodes);
+            }
+        }
+    }
+
+    #[test]
+    fn the_leaf_is_taken_off_before_steps_are_shared_out() {
+        let row = |nodes, plan| Row {
+            name: "",
+            nodes,
+            plan,
+            singles: 80.0,
+            leaf: 20.0,
+            leaves: 40.0,
+            port: 60.0,
+        };
+        let (shortest, longer) = (row(2, 120.0), row(5, 420.0));
+        assert_eq!(shortest.to_single(), 1.25);
+        assert_eq!(longer.to_single(), 5.0);
+        assert_eq!(longer.growth(&shortest), 1.0);
+    }
+}

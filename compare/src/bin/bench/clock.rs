@@ -38,3 +38,19 @@ fn median(mut values: Vec<f64>) -> f64 {
     values.sort_by(f64::total_cmp);
     values[values.len() / 2]
 }
+
+#[cfg(test)]
+mod tests {
+    use super::*;
+
+    #[test]
+    fn each_way_has_its_own_median() {
+        let mut round = 0.0;
+        let found = medians(3, 2, |way| {
+            round += 1.0;
+            // 1, 3, 5 in the first way; 20, 40, 60 in the second.
+            [round, round * 10.0][way]
+        });
+        assert_eq!(found, [3.0, 40.0]);
+    }
+}

@@ -69,3 +69,14 @@ pub fn grouped(rate: f64) -> String {
     }
     text
 }
+
+#[cfg(test)]
+mod tests {
+    use super::*;
+
+    #[test]
+    fn thousands_are_set_apart() {
+        let texts = [7.4, 999.6, 123_456.0, 1_234_567.0].map(grouped);
+        assert_eq!(texts, ["7", "1,000", "123,456", "1,234,567"]);
+    }
+}

@@ -155,3 +155,45 @@ fn of_plans(kinds: &[chains::Rows]) -> [Target; 2] {
         },
     ]
 }
+
+#[cfg(test)]
+mod tests {
+    use super::*;
+
+    fn target(limit: Limit, values: [(f64, bool); 3]) -> String {
+        let seen = values.map(|(value, decides)| Seen {
+            row: format!("row {value}"),
+            value,
+            decides,
+        });
+        line(&Target {
+            words: "words",
+            limit,
+            seen: seen.into(),
+        })
+    }
+
+    #[test]
+    fn the_deciding_rows_give_the_verdict() {
+        let line = target(
+            Limit::AtLeast(10.0),
+            [(10.0, true), (4.0, false), (12.0, false)],
+        );
+        assert_eq!(
+            line,
+            "| words | 10.00: row 10 | met | 2 of 3 meet it | 4.00: row 4 |"
+        );
+    }
+
+    #[test]
+    fn one_deciding_row_over_the_limit_misses() {
+        let line = target(
+            Limit::AtMost(1.5),
+            [(1.5, true), (1.75, true), (2.0, false)],
+        );
+        assert_eq!(
+            line,
+            "| words | 1.75: row 1.75 | missed | 1 of 3 meet it | 2.00: row 2 |"
+        );
+    }
+}
