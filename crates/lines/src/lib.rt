@@ -51,7 +51,7 @@ pub enum Held {
 // ---- lines
 
 // The first place of `b` from `from` on, or the length.
-fn find(s: &[u8], from: usize, b: u8) -> usize
+pub fn find(s: &[u8], from: usize, b: u8) -> usize
     requires { ⌜ from ≤ length (now s) ⌝ }
     ensures { λ r. ⌜ Found b (now (s .entry)) from r ⌝ }
 {
@@ -127,6 +127,14 @@ fn first(buf: &[u8], filled: usize) -> Line
             },
         }
     }
+}
+
+// Whether a line of a list says nothing: it is empty, or begins with `#`.
+pub fn is_comment(line: &[u8]) -> bool {
+    if line.len() == 0 {
+        return true;
+    }
+    line[0] == b'#'
 }
 
 // ---- fields

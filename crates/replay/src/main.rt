@@ -15,13 +15,13 @@ fn report(line: u64, o: Outcome) {
         Outcome::Agrees(_) => {}
         Outcome::Unread => {
             io::write_all(STDOUT_FILENO, b"line ");
-            tally::say(line, b" cannot be read\n");
+            words::say(line, b" cannot be read\n");
         }
         Outcome::Differs(_, reply) => {
             io::write_all(STDOUT_FILENO, b"line ");
-            tally::say(line, b" differs: code ");
-            tally::say(single::code_of(reply), b", length ");
-            tally::say(single::length_of(reply), b"\n");
+            words::say(line, b" differs: code ");
+            words::say(single::code_of(reply), b", length ");
+            words::say(single::length_of(reply), b"\n");
         }
     }
 }

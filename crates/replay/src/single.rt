@@ -43,13 +43,6 @@ pub fn length_of(reply: u64) -> u64
     reply / LENGTH_UNIT
 }
 
-fn is_comment(line: &[u8]) -> bool {
-    if line.len() == 0 {
-        return true;
-    }
-    line[0] == b'#'
-}
-
 fn is_mark(s: &[u8]) -> bool {
     if check::same(s, b"rust") {
         return true;
@@ -155,7 +148,7 @@ fn replayed(line: &[u8], call: Call) -> Outcome {
 }
 
 pub fn judged(line: &[u8]) -> Outcome {
-    if is_comment(line) {
+    if lines::is_comment(line) {
         return Outcome::Comment;
     }
     if lines::fields(line) != FIELDS {

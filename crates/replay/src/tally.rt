@@ -104,21 +104,15 @@ impl Tally {
         let agree = self.agree;
         let differ = self.differ;
         io::write_all(STDOUT_FILENO, b"single calls: ");
-        say(sum(&agree), b" agree, ");
-        say(sum(&differ), b" differ\n");
-        say(self.accepted, b" accepted, ");
-        say(self.refused, b" refused, ");
-        say(self.short, b" outputs too short; ");
-        say(self.unread, b" of ");
-        say(self.lines, b" lines cannot be read\n");
+        words::say(sum(&agree), b" agree, ");
+        words::say(sum(&differ), b" differ\n");
+        words::say(self.accepted, b" accepted, ");
+        words::say(self.refused, b" refused, ");
+        words::say(self.short, b" outputs too short; ");
+        words::say(self.unread, b" of ");
+        words::say(self.lines, b" lines cannot be read\n");
         print_places(&agree, &differ);
     }
-}
-
-// A number, and words behind it.
-pub fn say(n: u64, text: &[u8]) {
-    io::print_decimal(STDOUT_FILENO, n);
-    io::write_all(STDOUT_FILENO, text);
 }
 
 fn sum(counts: &[u64; PLACES]) -> u64 {
@@ -134,8 +128,8 @@ fn sum(counts: &[u64; PLACES]) -> u64 {
 fn print_place(component: u32, agree: u64, differ: u64) {
     words::component(component);
     io::write_all(STDOUT_FILENO, b": ");
-    say(agree, b" agree, ");
-    say(differ, b" differ\n");
+    words::say(agree, b" agree, ");
+    words::say(differ, b" differ\n");
 }
 
 fn print_places(agree: &[u64; PLACES], differ: &[u64; PLACES]) {

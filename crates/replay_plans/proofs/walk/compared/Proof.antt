@@ -1,0 +1,101 @@
+-- `replay_plans::walk::compared` is safe and ends: what `bytes_of` put is within its buffer.
+-- Assumes nothing.
+use mathlib.Core.Path.{sym, subst}
+use lib.ListN.{length}
+use lib.Seq.{length-take-le}
+use Rattle.lines.specs.declared.Held.{Held}
+use Rattle.lines.specs.Bytes.{Within}
+use borrow.Author.Needs.{needs}
+use Rattle.replay_plans.proofs.walk.compared.Statement.{statement}
+use Rattle.replay_plans.proofs.walk.compared.Tie as tie
+
+field-requires : tie.Need-field-requires
+field-requires c κs = search needs
+
+bytes-of-requires : tie.Need-bytes-of-requires
+bytes-of-requires c κs = search needs
+
+enum-known-a : tie.Need-enum-known-a
+enum-known-a c = search needs
+
+enum-told : tie.Need-enum-told
+enum-told c = search needs
+
+same-length : tie.Need-same-length
+same-length c = search needs
+
+returns : tie.Need-returns
+returns c = search needs
+
+laid-out-requires : tie.Need-laid-out-requires
+laid-out-requires c κs = search needs
+
+enum-known-b : tie.Need-enum-known-b
+enum-known-b c = search needs
+
+enum-told-2 : tie.Need-enum-told-2
+enum-told-2 c = search needs
+
+same-length-2 : tie.Need-same-length-2
+same-length-2 c = search needs
+
+same-length-3 : tie.Need-same-length-3
+same-length-3 c = search needs
+
+same-length-4 : tie.Need-same-length-4
+same-length-4 c = search needs
+
+returns-2 : tie.Need-returns-2
+returns-2 c = search needs
+
+slice-reshare-prefix-called : tie.Need-slice-reshare-prefix-called
+slice-reshare-prefix-called c =
+    let a = c .before .before .before .before .before .before .before .before .before .before .before in
+    let put = a .before .before .before .before in
+    subst (λ (h : Held). Within h (length (put .bytes-of .last .1 .0))) (a .a .given .1) (put .bytes-of .ensures .1)
+
+slice-aggregate-called : tie.Need-slice-aggregate-called
+slice-aggregate-called c =
+    let a = c .before .before .before .before .before .before .before .before .before .before .before .before in
+    let put = a .before .before .before .before in
+    sym (length-take-le _ (put .bytes-of .last .1 .0) (subst (λ (h : Held). Within h (length (put .bytes-of .last .1 .0))) (a .a .given .1) (put .bytes-of .ensures .1)))
+
+called-requires : tie.Need-called-requires
+called-requires c κs = search needs
+
+same-length-5 : tie.Need-same-length-5
+same-length-5 c = search needs
+
+same-length-6 : tie.Need-same-length-6
+same-length-6 c = search needs
+
+same-length-7 : tie.Need-same-length-7
+same-length-7 c = search needs
+
+returns-3 : tie.Need-returns-3
+returns-3 c = search needs
+
+pub compared-spec : {M : Type 1} → statement M
+compared-spec =
+    tie.close
+    (tie.spec
+    field-requires
+    bytes-of-requires
+    enum-known-a
+    enum-told
+    same-length
+    returns
+    laid-out-requires
+    enum-known-b
+    enum-told-2
+    same-length-2
+    same-length-3
+    same-length-4
+    returns-2
+    slice-reshare-prefix-called
+    slice-aggregate-called
+    called-requires
+    same-length-5
+    same-length-6
+    same-length-7
+    returns-3)

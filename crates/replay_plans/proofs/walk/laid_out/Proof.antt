@@ -1,0 +1,113 @@
+-- `replay_plans::walk::laid_out` meets its contract: what each of the three calls of `put_sheets` lays.
+-- Assumes nothing.
+use mathlib.Core.Path.{sym, subst, _∙_}
+use native.Mathlib.Nat.{zero-add}
+use denote.Ref.{now}
+use Rattle.lines.specs.declared.Held.{Held}
+use Rattle.replay_plans.specs.Sheets.{Lays}
+use borrow.Author.Needs.{needs}
+use Rattle.replay_plans.proofs.walk.laid_out.Statement.{statement}
+use Rattle.replay_plans.proofs.walk.laid_out.Tie as tie
+
+field-requires : tie.Need-field-requires
+field-requires c κs = search needs
+
+put-sheets-requires : tie.Need-put-sheets-requires
+put-sheets-requires c κs = search needs
+
+enum-known-a : tie.Need-enum-known-a
+enum-known-a c = search needs
+
+enum-told : tie.Need-enum-told
+enum-told c = search needs
+
+same-length : tie.Need-same-length
+same-length c = search needs
+
+returns : tie.Need-returns
+returns c = search needs
+
+put-sheets-requires-2 : tie.Need-put-sheets-requires-2
+put-sheets-requires-2 c κs = search needs
+
+enum-told-2 : tie.Need-enum-told-2
+enum-told-2 c = search needs
+
+enum-told-3 : tie.Need-enum-told-3
+enum-told-3 c = search needs
+
+same-length-2 : tie.Need-same-length-2
+same-length-2 c = search needs
+
+same-length-3 : tie.Need-same-length-3
+same-length-3 c = search needs
+
+returns-2 : tie.Need-returns-2
+returns-2 c = search needs
+
+field-requires-2 : tie.Need-field-requires-2
+field-requires-2 c κs = search needs
+
+put-sheets-requires-3 : tie.Need-put-sheets-requires-3
+put-sheets-requires-3 c κs = search needs
+
+enum-told-4 : tie.Need-enum-told-4
+enum-told-4 c = search needs
+
+enum-told-5 : tie.Need-enum-told-5
+enum-told-5 c = search needs
+
+same-length-4 : tie.Need-same-length-4
+same-length-4 c = search needs
+
+same-length-5 : tie.Need-same-length-5
+same-length-5 c = search needs
+
+returns-3 : tie.Need-returns-3
+returns-3 c = search needs
+
+same-length-6 : tie.Need-same-length-6
+same-length-6 c = search needs
+
+same-length-7 : tie.Need-same-length-7
+same-length-7 c = search needs
+
+returns-4 : tie.Need-returns-4
+returns-4 c =
+    let args = c .before .before .before .before .before .before .before .before .before .before .before .before .before .before .before .before .before .before .before .before .before .before .before .before .args in
+    let leaves = c .before .before .before .before .before .before .before .before .before .before .before .before .before .before .before .before .before .before .before .before .field in
+    let put = c .before .before .before .before .before .before .before .before .before .before .before .before .before .before .before .before .before .before .put-sheets in
+    let again = c .before .before .before .before .before .before .before .before .before .before .before .put-sheets2 in
+    let derived = c .before .before .before .before .put-sheets3 in
+    let n = c .before .before .before .before .before .before .before .before .before .before .before .before .before .before .a .given .0 .0 in
+    let a = subst (λ (h : Held). Lays h (now (leaves .result)) 0 (now (args .work)) (put .last .1 .1 .0)) (c .before .before .before .before .before .before .before .before .before .before .before .before .before .before .a .given .1) (put .ensures) in
+    let b = subst (λ (h : Held). Lays h (now (leaves .result)) 0 (now (args .expected)) (again .last .1 .1 .0)) (c .before .before .before .before .before .before .before .enum-told2 .given .1) (again .ensures) in
+    let d = subst (λ (h : Held). Lays h (now (c .before .before .before .before .before .before .field2 .result)) n (again .last .1 .1 .0) (derived .last .1 .1 .0)) (c .enum-told4 .given .1) (derived .ensures) in
+    rw (sym (leaves .ensures), sym (c .before .before .before .before .before .before .field2 .ensures)) (a .0 ∙ zero-add _, a .1, (again .last .1 .1 .0, b .1, d .1))
+
+pub laid-out-spec : {M : Type 1} → statement M
+laid-out-spec =
+    tie.close
+    (tie.spec
+    field-requires
+    put-sheets-requires
+    enum-known-a
+    enum-told
+    same-length
+    returns
+    put-sheets-requires-2
+    enum-told-2
+    enum-told-3
+    same-length-2
+    same-length-3
+    returns-2
+    field-requires-2
+    put-sheets-requires-3
+    enum-told-4
+    enum-told-5
+    same-length-4
+    same-length-5
+    returns-3
+    same-length-6
+    same-length-7
+    returns-4)

@@ -1,0 +1,123 @@
+-- `replay_plans::walk::put_sheets` meets its contract. The loop's invariant: laying the sheets that are left, from slot k on, lays all. The measure is the number of slots that are left.
+-- Assumes nothing.
+use Prim.Native.Nat.{ℕ, _+_, _-_, _≤_}
+use mathlib.Core.Path.{_≡_, refl, ap, _∙_}
+use native.Mathlib.Nat.{add-zero}
+use denote.Ref.{now}
+use Rattle.replay_plans.proofs.Texts.{not-both, split-last, split-more, texts-none, texts-some}
+use mathlib.Core.List.{List}
+use lib.ListN.{length, drop}
+use borrow.Author.Needs.{needs}
+use borrow.Author.Tests.{not-false}
+use native.Mathlib.Omega.{arith}
+use Rattle.replay_plans.specs.Sheets.{split, Laid}
+use Rattle.replay_plans.proofs.walk.put_sheets.Statement.{statement}
+use Rattle.replay_plans.proofs.walk.put_sheets.Tie as tie
+
+abbrev Inv-loop : tie.InvT-loop
+Inv-loop s slot buf₀ k₀ at₀ buf k at =
+    (at ≤ length s)
+    × (length buf ≡ length buf₀)
+    × (k + length (split 44 (drop at s)) ≡ slot + length (split 44 s))
+    × ((d : List ℕ) → Laid (split 44 (drop at s)) k buf d → Laid (split 44 s) slot buf₀ d)
+
+abbrev μ-loop : tie.MeasureT-loop
+μ-loop s slot buf₀ k₀ at₀ buf k at = 32 - k
+
+slice-aggregate-same : tie.Need-slice-aggregate-same Inv-loop μ-loop
+slice-aggregate-same c = search needs
+
+same-requires : tie.Need-same-requires Inv-loop μ-loop
+same-requires c κs = search needs
+
+returns : tie.Need-returns Inv-loop μ-loop
+returns c =
+    let none = texts-none (now (c .before .before .before .before .before .args .s)) (c .before .same .ensures .0 (c .if1 .taken)) in
+    (rw (none, add-zero), rw none refl)
+
+loop-holds : tie.Need-loop-holds Inv-loop μ-loop
+loop-holds c = (search needs, refl, refl, λ d l. l)
+
+find-requires : tie.Need-find-requires Inv-loop μ-loop
+find-requires c κs = search needs
+
+sub-put-sheet : tie.Need-sub-put-sheet Inv-loop μ-loop
+sub-put-sheet c = search needs
+
+part-put-sheet-start : tie.Need-part-put-sheet-start Inv-loop μ-loop
+part-put-sheet-start c = search needs
+
+part-put-sheet-end : tie.Need-part-put-sheet-end Inv-loop μ-loop
+part-put-sheet-end c = search needs
+
+put-sheet-requires : tie.Need-put-sheet-requires Inv-loop μ-loop
+put-sheet-requires c κs = search needs
+
+same-length : tie.Need-same-length Inv-loop μ-loop
+same-length c = search needs
+
+returns-2 : tie.Need-returns-2 Inv-loop μ-loop
+returns-2 c = search needs
+
+add-k : tie.Need-add-k Inv-loop μ-loop
+add-k c = search needs
+
+same-length-2 : tie.Need-same-length-2 Inv-loop μ-loop
+same-length-2 c = search needs
+
+returns-3 : tie.Need-returns-3 Inv-loop μ-loop
+returns-3 c =
+    let a = c .before .before .before .before .before .before .before .before .before .before .before .before .before .before .before .args in
+    let l = c .before .before .before .before .before .before .before .before .before .loop in
+    let s = now (a .s) in
+    let put = c .before .before .before .before .put-sheet in
+    let all = texts-some s (λ e. not-both (c .before .before .before .before .before .before .before .before .before .before .if1 .left) (c .before .before .before .before .before .before .before .before .before .before .before .same .ensures .1 e)) in
+    let last = split-last (c .before .before .before .before .before .before .before .find .ensures) (c .if3 .taken) in
+    let placed = put .ensures (not-false (put .result) (c .before .if2 .left)) in
+    (rw all (omega (arith, l .inv .2, ap length last)), rw all (l .inv .3 _ (rw last (put .last .1 .1 .0, placed, refl))))
+
+add-at : tie.Need-add-at Inv-loop μ-loop
+add-at c = search needs
+
+loop-less : tie.Need-loop-less Inv-loop μ-loop
+loop-less c = search needs
+
+loop-again : tie.Need-loop-again Inv-loop μ-loop
+loop-again c =
+    let l = c .before .before .before .before .before .before .before .before .before .loop in
+    let put = c .before .before .before .before .put-sheet in
+    let more = split-more (c .before .before .before .before .before .before .before .find .ensures) (c .if3 .left) in
+    let placed = put .ensures (not-false (put .result) (c .before .if2 .left)) in
+    (omega (arith, c .before .before .before .before .before .before .before .find .ensures .high), put .kept .1 .1 .0 ∙ l .inv .1, omega (arith, l .inv .2, ap length more), λ d rest. l .inv .3 d (rw more (put .last .1 .1 .0, placed, rest)))
+
+same-length-3 : tie.Need-same-length-3 Inv-loop μ-loop
+same-length-3 c = search needs
+
+returns-4 : tie.Need-returns-4 Inv-loop μ-loop
+returns-4 c = search needs
+
+pub put-sheets-spec : {M : Type 1} → statement M
+put-sheets-spec =
+    tie.close
+    (tie.spec
+    Inv-loop
+    μ-loop
+    slice-aggregate-same
+    same-requires
+    returns
+    loop-holds
+    find-requires
+    sub-put-sheet
+    part-put-sheet-start
+    part-put-sheet-end
+    put-sheet-requires
+    same-length
+    returns-2
+    add-k
+    same-length-2
+    returns-3
+    add-at
+    loop-less
+    loop-again
+    same-length-3
+    returns-4)
