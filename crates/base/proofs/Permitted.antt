@@ -1,23 +1,20 @@
 -- What a sheet that passed 4 is known to be.
---     permitted                    each part of check 4 holds
---     columns-within               a column count that is present is within its limits
---     lists-hold                   of categories, the part of check 4 that is theirs holds
---     number-below, numbers-rise   then a list number is below n, and not below the one before it
+--     permitted         each part of check 4 holds
+--     columns-within    a column count that is present is within its limits
 -- Assumes nothing.
 use mathlib.Core.Path.{_≡_}
 use mathlib.Core.Bool.{Bool, true, false, cond, _&&_, _||_}
 use mathlib.Core.List.{List}
 use mathlib.Core.Option.{Option, none, some}
-use Prim.Native.Nat.{ℕ, _-_, _≤_, _<_}
+use Prim.Native.Nat.{ℕ, _≤_, _<_}
 use native.Mathlib.Omega.{arith}
 use lib.Dec.{eqb, ltb, leb}
-use borrow.Author.Tests.{ltb-true, leb-true, ne-eqb, not-false}
+use borrow.Author.Tests.{ltb-true, leb-true, not-false}
 use Rattle.bytes.specs.Le.{leAt}
-use Rattle.base.specs.Form.{Form, place, byteAt, natureAt, columnsMarkAt, columnsAt, rowsMarkAt, rowsAt, datasetMarkAt, datasetAt, dimensionalityMarkAt, dimensionalityAt, sampleMarkAt, sampleAt, groupCount, listCount, categoryCount, absentNature, isRangeNature}
-use Rattle.base.specs.Decode.{optionAt, fieldsIn, listNumber}
-use Rattle.base.specs.Checks.{bytesPermitted, valuesPermitted, fieldPermitted, columnsPermitted, groupsPermitted, naturePermitted, listsPermitted, numberPermitted, valuePermitted, fieldsFail}
+use Rattle.base.specs.Form.{Form, place, byteAt, columnsMarkAt, columnsAt, rowsMarkAt, rowsAt, datasetMarkAt, datasetAt, dimensionalityMarkAt, dimensionalityAt, sampleMarkAt, sampleAt}
+use Rattle.base.specs.Decode.{optionAt, fieldsIn}
+use Rattle.base.specs.Checks.{bytesPermitted, valuesPermitted, fieldPermitted, columnsPermitted, groupsPermitted, naturePermitted, fieldsFail}
 use Rattle.base.proofs.Flags.{and-both}
-use Rattle.base.proofs.Holding.{holds-within}
 
 pub record Permitted (F : Form) (s : List ℕ) : Type 0 where
   pub bytes : bytesPermitted F s ≡ true
@@ -66,28 +63,3 @@ module _ (F : Form) (s : List ℕ) where
           let low = ltb-true 0 n (b .0) in
           let high = leb-true n (F .columnLimit) (b .1) in
           (omega arith, omega arith)
-
-  pub lists-hold : Permitted F s → (byteAt F natureAt s ≡ absentNature → ⊥) → isRangeNature (byteAt F natureAt s) ≡ false → listsPermitted F s ≡ true
-  unfolding naturePermitted
-  lists-hold p present r = rw (ne-eqb (byteAt F natureAt s) absentNature present, r) at (p .nature)
-
-  module _ (h : listsPermitted F s ≡ true) where
-    number-holds : (i : ℕ) → i < categoryCount F s → numberPermitted F s i ≡ true
-    unfolding listsPermitted
-    number-holds i w =
-        and-both (numberPermitted F s i) (valuePermitted F s i)
-        (holds-within (λ k. numberPermitted F s k && valuePermitted F s k) (categoryCount F s) 0 i h (omega arith) (omega arith))
-        .0
-
-    pub number-below : (i : ℕ) → i < categoryCount F s → listNumber F s (groupCount F s) i < listCount F s
-    number-below i w =
-        let g = groupCount F s in
-        ltb-true (listNumber F s g i) (listCount F s)
-        (and-both (ltb (listNumber F s g i) (listCount F s)) (eqb i 0 || leb (listNumber F s g (i - 1)) (listNumber F s g i)) (number-holds i w) .0)
-
-    pub numbers-rise : (i : ℕ) → 0 < i → i < categoryCount F s → listNumber F s (groupCount F s) (i - 1) ≤ listNumber F s (groupCount F s) i
-    numbers-rise i behind w =
-        let g = groupCount F s in
-        let first : eqb i 0 ≡ false = ne-eqb i 0 (λ e. omega arith) in
-        let both = and-both (ltb (listNumber F s g i) (listCount F s)) (eqb i 0 || leb (listNumber F s g (i - 1)) (listNumber F s g i)) (number-holds i w) in
-        leb-true (listNumber F s g (i - 1)) (listNumber F s g i) (rw first at (both .1))

@@ -149,13 +149,6 @@ fn all_ends_permitted(s: &[u8], g: usize, n: usize) -> bool
 
 // ---- 4, categories
 
-// A byte as a size: a call of it asks nothing of the byte.
-fn wide(x: u8) -> usize
-    ensures { λ r. ⌜ r ≡ x ⌝ }
-{
-    x as usize
-}
-
 // List number i: below n, and not below the one before it.
 fn number_permitted(s: &[u8], g: usize, n: usize, t: usize, i: usize) -> bool
     requires { ⌜ ListsFit narrow (now s) g n t × (i < t) ⌝ }
@@ -163,7 +156,7 @@ fn number_permitted(s: &[u8], g: usize, n: usize, t: usize, i: usize) -> bool
 {
     let at = form::number_at(g, i);
     let number = s[at];
-    let below = wide(number) < n;
+    let below = bytes::wide(number) < n;
     if i == 0 {
         return below;
     }

@@ -12,6 +12,7 @@ ghost use Rattle.base.specs.Code.{boundAt, boundBytes, signedOf, bitsIn,
 ghost use Rattle.base.specs.Sized.{SizesIn};
 
 pub mod form; // limits, places and numbers
+pub mod refusals; // their numbers
 mod checks; // 3 and 4
 mod order; // 5
 
@@ -281,13 +282,13 @@ pub fn check_sheet(s: &[u8]) -> u32
     ensures { λ r. ⌜ r ≡ codeOf (read narrow (now (s .entry))) ⌝ }
 {
     if checks::sizes_fail(s) {
-        return 3;
+        return refusals::SIZES;
     }
     if checks::fields_fail(s) {
-        return 4;
+        return refusals::FIELDS;
     }
     if order::bounds_fail(s) {
-        return 5;
+        return refusals::BOUNDS;
     }
     0
 }

@@ -3,6 +3,5 @@ pub mod Widths
 pub mod Signs
 pub mod Patterns
 pub mod Appends
-pub mod Going
 pub mod Deliveries
 pub mod Round

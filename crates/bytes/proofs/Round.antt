@@ -1,23 +1,15 @@
--- Reading what was written: a small calculus of `leAt` over `take`, `drop`, `++` and `leBytes`.
---     leAt-shift, leAt-left, leAt-take, leAt-drop    the number does not depend on what lies around it
---     leAt-leBytes               the bytes of a number read back
---     number-back                the same, behind any bytes, of a number that the width holds
---     whole-back, float-back     the same, of a whole number that fits and of a float that does
+-- Reading what was written.
+--     leAt-shift      the number does not depend on what lies before it
+--     leAt-leBytes    the bytes of a number read back
+--     number-back     the same, behind any bytes, of a number that the width holds
 -- Assumes nothing.
 use mathlib.Core.Path.{_≡_, refl, sym, ap, _∙_}
 use mathlib.Core.List.{List, [], _∷_, _++_}
-use Prim.Native.Nat.{ℕ, zero, suc, _+_, _/_, _%_, _^_, _≤_, _<_}
+use Prim.Native.Nat.{ℕ, zero, suc, _+_, _/_, _%_, _^_, _<_}
 use native.Mathlib.Nat.{add-zero, mod-one, mod-eq-of-lt}
 use native.Mathlib.Omega.{arith}
-use lib.ListN.{length, take, drop, getD, List·getD-append}
-use lib.Seq.{getD-append-add, getD-take, getD-drop}
-use lib.Dec.{T}
-use lib.IntN.{ℤ}
-use lib.Ieee.{Float, binary64, fits, ofBits, toBits}
-use lib.Ieee.Bits.{ofBits-toBits, toBits-lt}
-use mir.Syntax.{w64}
-use mir.Val.{SFits, toZ, ofZ}
-use mir.Facts.{fits-ofZ, toZ-ofZ}
+use lib.ListN.{length, getD}
+use lib.Seq.{getD-append-add}
 use Rattle.bytes.specs.Le.{leAt, leBytes}
 use Rattle.bytes.proofs.Widths.{low-byte}
 
@@ -45,19 +37,6 @@ module _ (n at : ℕ) where
       group : (l i : ℕ) → l + at + i ≡ l + (at + i)
       group l i = omega arith
 
-  pub leAt-left : (s q : List ℕ) → at + n ≤ length s → leAt n at (s ++ q) ≡ leAt n at s
-  leAt-left s q within = leAt-cong n at at (s ++ q) s (λ i h. List·getD-append s q 0 (at + i) (omega arith))
-
-  pub leAt-take : (m : ℕ) (s : List ℕ) → at + n ≤ m → leAt n at (take m s) ≡ leAt n at s
-  leAt-take m s within = leAt-cong n at at (take m s) s (λ i h. getD-take m s (at + i) 0 (omega arith))
-
-  pub leAt-drop : (k : ℕ) (s : List ℕ) → leAt n at (drop k s) ≡ leAt n (k + at) s
-  leAt-drop k s =
-      leAt-cong n at (k + at) (drop k s) s (λ i h. getD-drop k s (at + i) 0 ∙ ap (λ (j : ℕ). getD s j 0) (group i))
-    where
-      group : (i : ℕ) → k + (at + i) ≡ k + at + i
-      group i = omega arith
-
 pub leAt-leBytes : (n v : ℕ) (q : List ℕ) → leAt n 0 (leBytes n v ++ q) ≡ v % 256 ^ n
 unfolding leAt leBytes
 leAt-leBytes zero v q = sym (mod-one v)
@@ -71,9 +50,3 @@ module _ (p q : List ℕ) where
   number-back n v h =
       ap (λ (k : ℕ). leAt n k (p ++ (leBytes n v ++ q))) (sym (add-zero (length p)))
       ∙ leAt-shift n 0 p (leBytes n v ++ q) ∙ leAt-leBytes n v q ∙ mod-eq-of-lt h
-
-  pub whole-back : (z : ℤ) → SFits w64 z → toZ w64 (leAt 8 (length p) (p ++ (leBytes 8 (ofZ w64 z) ++ q))) ≡ z
-  whole-back z h = rw (number-back 8 (ofZ w64 z) (fits-ofZ {w = w64} h .fits)) (toZ-ofZ {w = w64} h)
-
-  pub float-back : (x : Float) → T (fits binary64 x) → ofBits binary64 (leAt 8 (length p) (p ++ (leBytes 8 (toBits binary64 x) ++ q))) ≡ x
-  float-back x h = rw (number-back 8 (toBits binary64 x) (toBits-lt binary64 x h)) (ofBits-toBits binary64 x h)

@@ -61,18 +61,18 @@ pub fn pattern(x: f64) -> u64
 
 // ---- readers: the number that stands at `at`
 
-// A byte, widened: a call of it asks nothing of the byte.
-fn wide(x: u8) -> u16
+// A byte as a size: a call of it asks nothing of the byte, where a cast asks that it fits.
+pub fn wide(x: u8) -> usize
     ensures { λ r. ⌜ (r ≡ x) × (r < 256) ⌝ }
 {
-    x as u16
+    x as usize
 }
 
 pub fn u16_at(s: &[u8], at: usize) -> u16
     requires { ⌜ at + 2 ≤ length (now s) ⌝ }
     ensures { λ r. ⌜ r ≡ leAt 2 at (now (s .entry)) ⌝ }
 {
-    wide(s[at]) + wide(s[at + 1]) * 256
+    (wide(s[at]) + wide(s[at + 1]) * 256) as u16
 }
 
 pub fn u32_at(s: &[u8], at: usize) -> u32

@@ -2,10 +2,10 @@
 --     number-more .. list-none    the bytes of one list, value by value
 --     Columns, columns-..         what is written after j columns, and what the other columns will make of it
 -- Assumes nothing.
-use mathlib.Core.Path.{_≡_, refl, sym, ap, ap₂, _∙_}
+use mathlib.Core.Path.{_≡_, refl, sym, ap, _∙_}
 use mathlib.Core.Bool.{Bool, true, false, cond}
 use mathlib.Core.List.{List, [], _∷_, _++_, append-assoc, append-nil}
-use Prim.Native.Nat.{ℕ, zero, suc, _+_, _-_, _*_, _<_, _≤_}
+use Prim.Native.Nat.{ℕ, suc, _+_, _-_, _*_, _<_, _≤_}
 use native.Mathlib.Nat.{add-zero, sub-zero, mod-eq-of-lt}
 use native.Mathlib.Numerals.{add-one}
 use native.Mathlib.Omega.{arith}
@@ -17,7 +17,7 @@ use borrow.Author.Tests.{ltb-true, ltb-false, lt-ltb, le-ltb}
 use Rattle.bytes.specs.Le.{leBytes}
 use Rattle.bytes.specs.declared.Put.the-variants as U
 use Rattle.numbers.specs.Result.{Result, ok, refused, andThen}
-use Rattle.base.specs.Form.{Form, narrow}
+use Rattle.base.specs.Form.{narrow}
 use Rattle.base.specs.Encode.{joined, wholeBits, total, numbersFrom}
 use Rattle.base.specs.Sheet.{wholeLists}
 use Rattle.writer.specs.Written.{Written, valuesOf, writtenOf, inWriting, derivedIn}

@@ -1,21 +1,20 @@
 -- An operand's lists: what its sheet has room for, list j category by category, and the list of a column. Assumes nothing.
-use mathlib.Core.Path.{_≡_, refl, sym, ap, subst, _∙_}
-use mathlib.Core.Bool.{Bool, true, false, cond}
+use mathlib.Core.Path.{_≡_, sym, ap, subst, _∙_}
+use mathlib.Core.Bool.{false}
 use mathlib.Core.List.{List, [], _∷_}
-use Prim.Native.Nat.{ℕ, zero, suc, _+_, _-_, _<_, _≤_}
+use Prim.Native.Nat.{ℕ, suc, _+_, _-_, _<_, _≤_}
 use native.Mathlib.Nat.{sub-zero}
 use native.Mathlib.Omega.{arith}
 use lib.IntN.{ℤ}
 use lib.ListN.{length, take, getD}
-use lib.Dec.{eqb}
 use borrow.Author.Tests.{eq-eqb, ne-eqb}
 use Rattle.numbers.specs.Kind.{eqZ}
-use Rattle.utilities.specs.Lists.{listFrom, noted, firstsFrom, firsts}
+use Rattle.utilities.specs.Lists.{noted, firstsFrom, firsts}
 use Rattle.utilities.specs.Noted.{Begins}
 use Rattle.utilities.proofs.Built.{listFrom-length, listFrom-at}
 use Rattle.utilities.proofs.Begins.{begins-none, begins-note}
-use Rattle.base.specs.Form.{Form, narrow, natureAt, byteAt, isRangeNature, groupCount, listCount, categoryCount}
-use Rattle.base.specs.Decode.{asWhole, listNumber, categoryAt, listAt, lists}
+use Rattle.base.specs.Form.{Form, natureAt, byteAt, isRangeNature, groupCount, listCount, categoryCount}
+use Rattle.base.specs.Decode.{listNumber, categoryAt, listAt, lists}
 use Rattle.base.specs.Sized.{SizesIn, ListsFit}
 use Rattle.base.specs.declared.Sizes.{Sizes}
 use Rattle.base.proofs.Passed.{passed, sized, long-enough, lists-fit}

@@ -1,11 +1,10 @@
 -- 01, "Categories": lists mapped or combined by a rule on whole numbers.
-use mathlib.Core.Bool.{Bool, true, false, cond}
+use mathlib.Core.Bool.{cond}
 use mathlib.Core.List.{List, [], _∷_, _++_}
 use mathlib.Core.Option.{Option, none, some}
 use Prim.Native.Nat.{ℕ, _-_, _%_, suc}
-use lib.IntN.{ℤ, pos, negsuc, natAbs, negℤ, pow}
+use lib.IntN.{ℤ, pos, negsuc, natAbs, pow}
 use lib.Dec.{eqb, ltb}
-use lib.Signed.{ltZ}
 use Rattle.numbers.specs.Result.{Result, ok, refused, andThen}
 use Rattle.numbers.specs.Checked.{inRange, checkedOf}
 use Rattle.numbers.specs.Kind.{whole, fitting, eqZ}

@@ -6,7 +6,7 @@ use Prim.Native.Nat.{ℕ, zero, suc, _+_, _<_}
 use lib.IntN.{ℤ}
 use lib.ListN.{length, getD}
 use lib.Dec.{eqb}
-use Rattle.numbers.specs.Result.{Result, ok, refused, andThen}
+use Rattle.numbers.specs.Result.{Result, ok, andThen}
 use Rattle.numbers.specs.Kind.{eqZ}
 use Rattle.utilities.specs.Lists.{firsts}
 use Rattle.utilities.specs.Columns.{each}

@@ -1,6 +1,7 @@
 // Categories, mapped and combined: from the lists of one sheet or two, the lists of the result, written into two lent buffers.
 use base::Component;
 use base::form;
+use base::refusals;
 use bytes::Put;
 use numbers::Checked;
 use utilities::Noted;
@@ -73,7 +74,7 @@ fn list_into(s: &[u8], j: usize, out: &mut [i64]) -> usize
         let number = form::number_at(g, i);
         let at = form::value_at(g, t, i);
         i += 1;
-        if wide(s[number]) != j {
+        if bytes::wide(s[number]) != j {
             continue;
         }
         let v = bytes::i64_at(s, at);
@@ -84,13 +85,6 @@ fn list_into(s: &[u8], j: usize, out: &mut [i64]) -> usize
         n = m;
     }
     n
-}
-
-// A byte as a size: a call of it asks nothing of the byte.
-fn wide(x: u8) -> usize
-    ensures { λ r. ⌜ r ≡ x ⌝ }
-{
-    x as usize
 }
 
 // The list of column j: one list stands for every column.
@@ -138,7 +132,7 @@ fn product_into(
         let mut j: usize = 0;
         while j < r {
             let Checked::Fits(v) = category(c, a, right[j]) else {
-                code = 24;
+                code = refusals::LEAVES_64_BITS;
                 break 'pairs;
             };
             j += 1;
@@ -170,7 +164,7 @@ fn map_into(c: Component, list: &[i64], n: usize, store: &mut [i64]) -> Product
     while i < n {
         let a = list[i];
         let Checked::Fits(v) = category(c, a, a) else {
-            return Product::Refused(24);
+            return Product::Refused(refusals::LEAVES_64_BITS);
         };
         store[i] = v;
         i += 1;
@@ -257,7 +251,7 @@ fn gather(n: usize, t: usize) -> Derived
     ensures { λ r. ⌜ (r ≡ gathered n t) × Within r ⌝ }
 {
     if form::CATEGORY_LIMIT < t {
-        return Derived::Refused(26);
+        return Derived::Refused(refusals::OVER_THE_LIMIT);
     }
     Derived::Nature(Parts {
         nature: form::WHOLE_LISTS,

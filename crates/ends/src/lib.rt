@@ -3,11 +3,6 @@ use base::Bound;
 ghost use mathlib.Core.Path.{_≡_};
 ghost use Rattle.ends.specs.Code.{absentEnds, bothEnds};
 
-// The numbers of the refusals.
-pub const MAY_MEET_ZERO: u32 = 23;
-
-pub const LEAVES_64_BITS: u32 = 24;
-
 // An entry of a range.
 pub struct Range {
     pub lower: Bound,

@@ -1,6 +1,7 @@
 // The end rules of the nine components on floats. An entry is [a, c] on the left and [d, f] on the right.
 use base::Bound;
 use base::Component;
+use base::refusals;
 use ends::Ends;
 use ends::Range;
 use numbers::Float;
@@ -216,18 +217,18 @@ fn div_by(a: Float, c: Float, lower: Bound, upper: Bound) -> Ends
 {
     let Bound::Float(d) = lower else {
         let Bound::Float(f) = upper else {
-            return Ends::Refused(ends::MAY_MEET_ZERO);
+            return Ends::Refused(refusals::MAY_MEET_ZERO);
         };
         if f < 0.0 {
             return ends::unknown();
         }
-        return Ends::Refused(ends::MAY_MEET_ZERO);
+        return Ends::Refused(refusals::MAY_MEET_ZERO);
     };
     let Bound::Float(f) = upper else {
         if 0.0 < d {
             return ends::unknown();
         }
-        return Ends::Refused(ends::MAY_MEET_ZERO);
+        return Ends::Refused(refusals::MAY_MEET_ZERO);
     };
     optimize_quotient(a, c, d, f)
 }

@@ -3,6 +3,7 @@
 use base::Component;
 use base::Numbered;
 use base::form;
+use base::refusals;
 use bytes::Put;
 use plan::Walked;
 ghost use mathlib.Core.Path.{_≡_};
@@ -12,9 +13,6 @@ ghost use Rattle.transforms.specs.Single.{packed, single};
 ghost use Rattle.plan.specs.Walk as Walk;
 ghost use Rattle.plan.specs.Demand.{Contained};
 ghost use Rattle.gate.specs.Reply.{replied};
-
-// 2: the component is not 1 to 9.
-const NO_COMPONENT: u32 = 2;
 
 // What the value of a reply is multiplied by.
 const VALUE_UNIT: u64 = 4294967296;
@@ -40,7 +38,7 @@ pub extern "C" fn propagate_property(
 {
     let numbered = Component::from_number(component);
     let Numbered::Is(c) = numbered else {
-        return reply(NO_COMPONENT, 0);
+        return reply(refusals::NO_COMPONENT, 0);
     };
     let mut scratch = [0u8; form::LONGEST];
     let put = transforms::step(c, node, left, right, &mut scratch);

@@ -6,4 +6,3 @@ pub mod Bits
 pub mod Laws
 pub mod Results
 pub mod Choices
-pub mod Real

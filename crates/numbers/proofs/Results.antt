@@ -1,8 +1,7 @@
 -- Laws of results that may be refused, and of checks in a row. Assumes nothing.
-use mathlib.Core.Path.{_≡_, refl, sym, ap, _∙_}
+use mathlib.Core.Path.{_≡_, refl, sym, ap}
 use mathlib.Core.Bool.{Bool, true, false, cond}
 use mathlib.Core.List.{List, _∷_}
-use mathlib.Core.Logic.{_⊎_, inl, inr}
 use Prim.Native.Nat.{ℕ}
 use native.Mathlib.Omega.{arith}
 use Rattle.numbers.specs.Result.{Result, ok, refused, andThen, Check, checked}
@@ -34,24 +33,9 @@ module _ {X Y : Type 0} (g : Result X) (rest : X → Result Y) where
       go (ok x) h e = record { value = x; is = h; after = e }
       go (refused k) h e = absurd (never (sym e))
 
-  pub then-refused-inv : {k : ℕ} → andThen g rest ≡ refused k → (g ≡ refused k) ⊎ Step g rest (refused k)
-  then-refused-inv e = go g refl e
-    where
-      go : (r : Result X) {k : ℕ} → g ≡ r → andThen r rest ≡ refused k → (g ≡ refused k) ⊎ Step g rest (refused k)
-      go (ok x) h e = inr (record { value = x; is = h; after = e })
-      go (refused n) {k} h e = let same : n ≡ k = cc in inl (h ∙ ap refused same)
-
 -- ---- checks in a row
 
 module _ {X : Type 0} (c : Check) (cs : List Check) (rest : Result X) where
-  pub checked-first : c .fails ≡ true → checked (c ∷ cs) rest ≡ refused (c .number)
-  unfolding checked
-  checked-first e = ap (λ (t : Bool). cond t (refused (c .number)) (checked cs rest)) e
-
-  pub checked-next : c .fails ≡ false → checked (c ∷ cs) rest ≡ checked cs rest
-  unfolding checked
-  checked-next e = ap (λ (t : Bool). cond t (refused (c .number)) (checked cs rest)) e
-
   -- where the answer is a value, the first check did not fail
   pub checked-passed : {x : X} → checked (c ∷ cs) rest ≡ ok x → (c .fails ≡ false) × (checked cs rest ≡ ok x)
   unfolding checked

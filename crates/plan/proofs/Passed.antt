@@ -10,7 +10,7 @@ use lib.Dec.{T}
 use lib.Ieee.{Float}
 use lib.IntN.{ℤ}
 use lib.ListN.{length, getD, getElem?}
-use borrow.Author.Tests.{eq-eqb}
+use borrow.Author.Tests.{eq-eqb, not-false}
 use Rattle.numbers.specs.Result.{Result, ok, Check, check, checked}
 use Rattle.numbers.specs.Kind.{Span}
 use Rattle.numbers.proofs.Results.{checked-passed}
@@ -19,6 +19,7 @@ use Rattle.utilities.proofs.Built.{every-at}
 use Rattle.base.specs.Bounds.{everyEntry, lowersPresent, uppersPresent, lowersPositive, lowersNonNegative}
 use Rattle.base.specs.Form.{floatType, intType}
 use Rattle.base.specs.Sheet.{Sheet, Nature, absent, wholeRange, floatRange, wholeLists, boolLists, floatLists, isWholeRange}
+use Rattle.base.proofs.Flags.{and-both}
 use Rattle.ends.specs.Ends.{spanOf}
 use Rattle.shape.specs.Orders.{operandChecks, bothOf, moduloChecks, logChecks, powerChecks, copyChecks}
 use Rattle.shape.specs.Shape.{columnsAbsent}
@@ -35,14 +36,6 @@ pub bounds-passed : {X : Type 0} {x : X} (l r : Sheet) (bs : List Check) (rest :
 bounds-passed l r bs rest e =
     checked-before (check 11 (columnsAbsent (l .fields)) ∷ []) rest bs
     (checked-after (bs ++ (check 11 (columnsAbsent (l .fields)) ∷ [])) rest (operandChecks (l .fields) ++ operandChecks (r .fields)) e)
-
-not-false : (t : Bool) → not t ≡ false → t ≡ true
-not-false true e = refl
-not-false false e = absurd (subst T e tt)
-
-left-true : (s t : Bool) → s && t ≡ true → s ≡ true
-left-true true t e = refl
-left-true false t e = e
 
 -- the second of two checks
 second : {X : Type 0} {x : X} (c : Check) (k : ℕ) (b : Bool) → checked (c ∷ check k (not b) ∷ []) (ok x) ≡ ok x → b ≡ true
@@ -147,7 +140,7 @@ module _ {X : Type 0} {x : X} (l r : Sheet) (m : ℕ) (f : Fitting (r .nature) m
       let d₄ = checked-passed _ _ (ok x) (d₃ .1) in
       let d₅ = checked-passed _ _ (ok x) (d₄ .1) in
       let d₆ = checked-passed _ _ (ok x) (d₅ .1) in
-      let base = left-true (lowersPresent (r .nature)) (uppersPresent (r .nature)) (not-false _ (d₃ .0)) in
+      let base = and-both (lowersPresent (r .nature)) (uppersPresent (r .nature)) (not-false _ (d₃ .0)) .0 in
       let data′ = not-false (lowersPresent (l .nature)) (d₅ .0) in
       let right = range-whole _ _ (r .nature) m base f in
       let left = range-whole _ _ (l .nature) n data′ g in

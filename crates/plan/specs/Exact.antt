@@ -1,5 +1,5 @@
 -- What a plan computes on one row, exactly. 01: "Rows and results are whole numbers of any size".
-use mathlib.Core.Bool.{Bool, cond}
+use mathlib.Core.Bool.{cond}
 use mathlib.Core.List.{List, [], _∷_, _++_}
 use mathlib.Core.Option.{Option, none, some}
 use Prim.Native.Nat.{ℕ, zero, suc}

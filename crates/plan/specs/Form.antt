@@ -1,9 +1,9 @@
 -- 01, "The plan, our addition": the form of a plan, and 1.
-use mathlib.Core.Bool.{Bool, true, false, not, _&&_, _||_}
+use mathlib.Core.Bool.{Bool, false, not, _&&_, _||_}
 use mathlib.Core.List.{List}
 use Prim.Native.Nat.{ℕ, _+_, _-_, _*_, _/_, _%_}
 use lib.ListN.{length}
-use lib.Dec.{eqb, leb, ltb}
+use lib.Dec.{eqb, ltb}
 use Rattle.bytes.specs.Le.{leAt}
 use Rattle.base.specs.Checks.{holdsFrom}
 use Rattle.base.specs.Components.{componentOf, isUnary}

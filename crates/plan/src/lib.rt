@@ -1,6 +1,7 @@
 // The plan call: its leaves are checked, then its steps are taken one after the other on the work buffer.
 use base::Component;
 use base::Numbered;
+use base::refusals;
 use bytes::Put;
 ghost use mathlib.Core.Path.{_≡_};
 ghost use Prim.Native.Nat.{_≤_};
@@ -17,15 +18,6 @@ pub mod form; // the plan's bytes, and 1
 
 // A work buffer has a slot for each node.
 pub const SLOT: usize = base::form::LONGEST;
-
-// 1: the plan is malformed.
-const MALFORMED: u32 = 1;
-
-// 2: no plan that passed 1 has such a component.
-const NO_COMPONENT: u32 = 2;
-
-// 27: the work buffer is too short.
-const NO_ROOM: u32 = 27;
 
 // The node of a refusal that no node is at fault for.
 const NO_NODE: usize = 65535;
@@ -67,7 +59,8 @@ pub fn step_on(plan: &[u8], k: usize, work: &mut [u8]) -> Put
 {
     let numbered = Component::from_number(form::component_number(plan, k));
     let Numbered::Is(c) = numbered else {
-        return Put::Refused(NO_COMPONENT);
+        // No plan that passed 1 has such a component.
+        return Put::Refused(refusals::NO_COMPONENT);
     };
     let left = form::left_operand(plan, k);
     let right = form::right_operand(plan, k);
@@ -138,10 +131,10 @@ pub fn propagate_properties(plan: &[u8], work: &mut [u8]) -> Walked
     ensures { λ r. ⌜ (walked r (now (work .exit)) ≡ Walk.plan narrow (now (plan .entry)) (now (work .entry))) × (walkedValue r ≤ noNode) ⌝ }
 {
     if form::plan_fails(plan) {
-        return Walked::Refused(MALFORMED, NO_NODE);
+        return Walked::Refused(refusals::MALFORMED, NO_NODE);
     }
     if work.len() < form::node_count(plan) * SLOT {
-        return Walked::Refused(NO_ROOM, NO_NODE);
+        return Walked::Refused(refusals::NO_ROOM, NO_NODE);
     }
     let leaves = check_leaves(plan, &work[..]);
     let Walked::Accepted(_) = leaves else {

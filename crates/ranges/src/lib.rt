@@ -2,6 +2,7 @@
 use base::Component;
 use base::Sizes;
 use base::form;
+use base::refusals;
 use ends::Ends;
 use ends::Range;
 use writer::Derived;
@@ -16,9 +17,6 @@ ghost use Rattle.base.specs.Sized.{RangeFits};
 ghost use Rattle.writer.specs.Written.{inWriting, derivedIn, Within};
 ghost use Rattle.ranges.specs.Ranges.{rangeNature};
 ghost use Rattle.ranges.specs.Chained.{spreadsOver, entryOf, rangeAt, columnEnds, columnAt, rangeNumber, rangeParts, columnsFrom};
-
-// A bound list has neither one entry nor one per output column.
-const UNEVEN_LIST: u32 = 18;
 
 // Whether a list has one entry, or one per column.
 fn spreads(columns: usize, n: usize) -> bool
@@ -158,11 +156,11 @@ pub fn range_pair(
 {
     let l = base::sizes_at(left);
     if !spreads(columns, l.lists) {
-        return Derived::Refused(UNEVEN_LIST);
+        return Derived::Refused(refusals::UNEVEN_LIST);
     }
     let r = base::sizes_at(right);
     if !spreads(columns, r.lists) {
-        return Derived::Refused(UNEVEN_LIST);
+        return Derived::Refused(refusals::UNEVEN_LIST);
     }
     put_columns(
         c,

@@ -7,24 +7,21 @@ use lib.Dec.{T, eqb}
 use borrow.Author.Tests.{not-true, eq-eqb}
 use Rattle.numbers.specs.Result.{Result, refused, Check, checked, firstFailing}
 use Rattle.utilities.specs.Lists.{every}
+use Rattle.utilities.proofs.Built.{both-hold}
 use Rattle.shape.specs.Parts.{next}
 
 -- no check has the number 0, which stands for no refusal
 pub record Numbered (cs : List Check) : Type 0 where
   pub all : every (λ c. not (eqb (c .number) 0)) cs ≡ true
 
-both : (t r : Bool) → cond t r false ≡ true → (t ≡ true) × (r ≡ true)
-both true r e = (refl, e)
-both false r e = absurd (subst T (sym e) tt)
-
 module _ (c : Check) (cs : List Check) (z : Numbered (c ∷ cs)) where
   head-numbered : eqb (c .number) 0 ≡ false
   unfolding every
-  head-numbered = not-true (eqb (c .number) 0) (both (not (eqb (c .number) 0)) (every (λ c. not (eqb (c .number) 0)) cs) (z .all) .0)
+  head-numbered = not-true (eqb (c .number) 0) (both-hold (not (eqb (c .number) 0)) (every (λ c. not (eqb (c .number) 0)) cs) (z .all) .0)
 
   tail-numbered : Numbered cs
   unfolding every
-  tail-numbered = record { all = both (not (eqb (c .number) 0)) (every (λ c. not (eqb (c .number) 0)) cs) (z .all) .1 }
+  tail-numbered = record { all = both-hold (not (eqb (c .number) 0)) (every (λ c. not (eqb (c .number) 0)) cs) (z .all) .1 }
 
 -- the later checks count where the earlier ones refuse nothing
 pub first-append : (cs ds : List Check) → Numbered cs → firstFailing (cs ++ ds) ≡ next (firstFailing cs) (firstFailing ds)

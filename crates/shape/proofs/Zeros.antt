@@ -1,10 +1,10 @@
 -- When Divide adds nullity: a range by its entries, float categories by their values, in whichever list they stand. Assumes nothing.
-use mathlib.Core.Path.{_≡_, refl, sym, ap, ap₂, subst, _∙_}
+use mathlib.Core.Path.{_≡_, refl, sym, ap, ap₂, _∙_}
 use mathlib.Core.Bool.{Bool, true, false, cond, not, _&&_, _||_, and-false}
 use mathlib.Core.List.{List, [], _∷_}
 use Prim.Native.Nat.{ℕ, zero, suc, _+_, _-_, _≤_, _<_}
 use native.Mathlib.Omega.{arith}
-use lib.Dec.{T, eqb, leb, ltb}
+use lib.Dec.{eqb, leb, ltb}
 use borrow.Author.Tests.{ltb-true, eqb-false, ne-eqb, not-false}
 use Rattle.utilities.specs.Lists.{listFrom, every, any}
 use Rattle.base.specs.Form.{Form, natureAt, byteAt, isRangeNature, groupCount, listCount, categoryCount}
@@ -16,6 +16,7 @@ use Rattle.base.specs.declared.Component.{Component}
 use Rattle.base.specs.declared.Component.the-variants as C
 use Rattle.base.proofs.Natures.{nature-float-range, nature-float-lists}
 use Rattle.base.proofs.Holding.{every-from}
+use Rattle.base.proofs.Flags.{and-both}
 use Rattle.shape.specs.declared.bounds.Ask.the-variants as A
 use Rattle.shape.specs.Fields.{spansZero, nanOrZero, mayMeetZero, addsNullity}
 use Rattle.shape.specs.Asked.{wholeAsked, floatAsked, valueApart, isDivide}
@@ -30,14 +31,6 @@ any-not p (x ∷ xs) = go (p x) (any p xs) (every (λ x. not (p x)) xs) (any-not
     go : (t a b : Bool) → a ≡ not b → cond t true a ≡ not (cond (not t) b false)
     go true a b e = refl
     go false a b e = e
-
-and-left : (a b : Bool) → (a && b) ≡ true → a ≡ true
-and-left true b e = refl
-and-left false b e = absurd (subst T (sym e) tt)
-
-and-right : (a b : Bool) → (a && b) ≡ true → b ≡ true
-and-right true b e = e
-and-right false b e = absurd (subst T (sym e) tt)
 
 holds-same : {p q : ℕ → Bool} → ((k : ℕ) → p k ≡ q k) → (n i : ℕ) → holdsFrom n i p ≡ holdsFrom n i q
 unfolding holdsFrom
@@ -102,9 +95,9 @@ module _ (F : Form) (s : List ℕ) (g t n : ℕ) (p : ℕ → Bool) where
   all-lists (suc k) i h =
       let here = ltb (listNumber F s g i) n in
       let later = holdsFrom k (i + 1) (λ i. ltb (listNumber F s g i) n) in
-      let below : listNumber F s g i < n = ltb-true (listNumber F s g i) n (and-left here later h) in
+      let below : listNumber F s g i < n = ltb-true (listNumber F s g i) n (and-both here later h .0) in
       holds-both (λ j. elsewhere j i) (λ j. holdsFrom k (i + 1) (elsewhere j)) n 0
-      ∙ ap₂ _&&_ (one-of n 0 (listNumber F s g i) (p (categoryAt F s g t i)) (omega arith) (omega arith)) (all-lists k (i + 1) (and-right here later h))
+      ∙ ap₂ _&&_ (one-of n 0 (listNumber F s g i) (p (categoryAt F s g t i)) (omega arith) (omega arith)) (all-lists k (i + 1) (and-both here later h .1))
 
   pub every-list : holdsFrom t 0 (λ i. ltb (listNumber F s g i) n) ≡ true
       → every (λ l. every p l) (listFrom n 0 (λ j. listAt F s asBits g t j t 0)) ≡ holdsFrom t 0 (λ i. p (categoryAt F s g t i))
@@ -141,11 +134,12 @@ module _ (F : Form) (s : List ℕ) where
       let others = bytesPermitted F s && valuesPermitted F s && groupsPermitted F s in
       let below : ℕ → Bool = λ i. ltb (listNumber F s (groupCount F s) i) (listCount F s) in
       let rising : ℕ → Bool = λ i. eqb i 0 || leb (listNumber F s (groupCount F s) (i - 1)) (listNumber F s (groupCount F s) i) in
-      let nature = and-right others (naturePermitted F s) (not-false (others && naturePermitted F s) h) in
+      let nature = and-both others (naturePermitted F s) (not-false (others && naturePermitted F s) h) .1 in
       let number =
-      and-left (holdsFrom t 0 (numberPermitted F s)) (holdsFrom t 0 (valuePermitted F s))
-      (sym (holds-both (numberPermitted F s) (valuePermitted F s) t 0) ∙ sym (permitted-lists e) ∙ nature) in
-      and-left (holdsFrom t 0 below) (holdsFrom t 0 rising) (sym (holds-both below rising t 0) ∙ number)
+      and-both (holdsFrom t 0 (numberPermitted F s)) (holdsFrom t 0 (valuePermitted F s))
+      (sym (holds-both (numberPermitted F s) (valuePermitted F s) t 0) ∙ sym (permitted-lists e) ∙ nature)
+      .0 in
+      and-both (holdsFrom t 0 below) (holdsFrom t 0 rising) (sym (holds-both below rising t 0) ∙ number) .0
 
   pub lists-meet-zero : fieldsFail F s ≡ false → byteAt F natureAt s ≡ 5 → mayMeetZero (natureIn F s) ≡ not (holdsFrom (categoryCount F s) 0 (valueApart F s))
   unfolding mayMeetZero lists

@@ -1,12 +1,11 @@
 -- 01, "Other fields": the sheet that a component derives of its operands and of the new nature.
-use mathlib.Core.Bool.{Bool, true, false, cond, _&&_, _||_}
-use mathlib.Core.List.{List}
+use mathlib.Core.Bool.{Bool, true, false, _&&_, _||_}
 use mathlib.Core.Option.{Option, none, some}
 use Prim.Native.Nat.{ℕ, max}
 use lib.IntN.{ℤ, pos}
 use lib.Ieee as Ieee
 use lib.Ieee.{Float, binary64, ofBits}
-use Rattle.numbers.specs.Kind.{Span, zeroFloat}
+use Rattle.numbers.specs.Kind.{zeroFloat}
 use Rattle.utilities.specs.Lists.{any}
 use Rattle.base.specs.Sheet.{Nature, absent, wholeRange, floatRange, wholeLists, boolLists, floatLists, Fields, Sheet}
 use Rattle.base.specs.declared.Component.{Component}

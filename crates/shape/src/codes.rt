@@ -5,6 +5,17 @@ use base::Component;
 use base::Head;
 use base::OptionU64;
 use base::form;
+use base::refusals::AGGREGATED;
+use base::refusals::BOUND_KINDS;
+use base::refusals::COLUMNS;
+use base::refusals::CONDITION;
+use base::refusals::DATASETS;
+use base::refusals::GROUPS;
+use base::refusals::NO_COLUMNS;
+use base::refusals::ROWS;
+use base::refusals::SAMPLED;
+use base::refusals::STABILITIES;
+use base::refusals::TYPES;
 ghost use mathlib.Core.Path.{_≡_};
 ghost use mathlib.Core.Bool.{false, not, _&&_};
 ghost use lib.Dec.{eqb};
@@ -59,7 +70,7 @@ fn sampled(h: Head) -> bool
 fn operand_code(h: Head) -> u32
     ensures { λ r. ⌜ r ≡ firstFailing (operandChecks (headFields h)) ⌝ }
 {
-    first(6, aggregated(h), first(7, sampled(h), 0))
+    first(AGGREGATED, aggregated(h), first(SAMPLED, sampled(h), 0))
 }
 
 // 6 and 7 of both operands, left's before right's, then the rest.
@@ -73,7 +84,11 @@ fn operands_code(l: Head, r: Head, rest: u32) -> u32
 pub fn unary_code(h: Head) -> u32
     ensures { λ r. ⌜ r ≡ firstFailing (unaryChecks (headFields h)) ⌝ }
 {
-    first(6, aggregated(h), first(11, crate::columns_absent(h), 0))
+    first(
+        AGGREGATED,
+        aggregated(h),
+        first(NO_COLUMNS, crate::columns_absent(h), 0),
+    )
 }
 
 // ---- 8 to 14
@@ -106,9 +121,9 @@ fn shape_code(l: Head, r: Head) -> u32
     let columns = crate::columns_clash(l, r);
     let rows = crate::rows_clash(l, r);
     let types = l.data_type != r.data_type;
-    let rest = first(13, rows, first(14, types, 0));
-    let sizes = first(11, absent, first(12, columns, rest));
-    first(9, datasets, first(10, stabilities, sizes))
+    let rest = first(ROWS, rows, first(TYPES, types, 0));
+    let sizes = first(NO_COLUMNS, absent, first(COLUMNS, columns, rest));
+    first(DATASETS, datasets, first(STABILITIES, stabilities, sizes))
 }
 
 // Add, Subtract, Multiply and Divide.
@@ -117,7 +132,7 @@ pub fn pair_code(left: &[u8], right: &[u8], l: Head, r: Head) -> u32
     ensures { λ o. ⌜ o ≡ firstFailing (pairChecks (decode narrow (now (left .entry))) (decode narrow (now (right .entry)))) ⌝ }
 {
     let clash = groups_clash(left, right, l, r);
-    operands_code(l, r, first(8, clash, shape_code(l, r)))
+    operands_code(l, r, first(GROUPS, clash, shape_code(l, r)))
 }
 
 // ---- 14 to 16
@@ -132,14 +147,18 @@ fn modulo_code(right: &[u8], l: Head, r: Head) -> u32
     requires { ⌜ Operand narrow (now right) r ⌝ }
     ensures { λ o. ⌜ o ≡ firstFailing (moduloChecks (only (headFields l)) (decode narrow (now (right .entry)))) ⌝ }
 {
-    let conditions = first(16, !bounds::lowers_positive(right), 0);
+    let conditions = first(CONDITION, !bounds::lowers_positive(right), 0);
     if both_of(l, r, form::INT_TYPE) {
-        return first(15, !bounds::whole_lowers_present(right), conditions);
+        return first(
+            BOUND_KINDS,
+            !bounds::whole_lowers_present(right),
+            conditions,
+        );
     }
     if both_of(l, r, form::FLOAT_TYPE) {
-        return first(15, !bounds::lowers_present(right), conditions);
+        return first(BOUND_KINDS, !bounds::lowers_present(right), conditions);
     }
-    14
+    TYPES
 }
 
 fn power_code(right: &[u8], l: Head, r: Head) -> u32
@@ -147,10 +166,14 @@ fn power_code(right: &[u8], l: Head, r: Head) -> u32
     ensures { λ o. ⌜ o ≡ firstFailing (powerChecks (only (headFields l)) (decode narrow (now (right .entry)))) ⌝ }
 {
     if both_of(l, r, form::INT_TYPE) {
-        let conditions = first(16, !bounds::lowers_non_negative(right), 0);
-        return first(15, !bounds::whole_lowers_present(right), conditions);
+        let conditions = first(CONDITION, !bounds::lowers_non_negative(right), 0);
+        return first(
+            BOUND_KINDS,
+            !bounds::whole_lowers_present(right),
+            conditions,
+        );
     }
-    first(14, !both_of(l, r, form::FLOAT_TYPE), 0)
+    first(TYPES, !both_of(l, r, form::FLOAT_TYPE), 0)
 }
 
 // 15 and 16 of the data.
@@ -159,8 +182,12 @@ fn data_code(left: &[u8], right: &[u8]) -> u32
     ensures { λ o. ⌜ o ≡ firstFailing (dataChecks (decode narrow (now (left .entry))) (decode narrow (now (right .entry)))) ⌝ }
 {
     let whole = bounds::is_whole_range(left) & bounds::is_whole_range(right);
-    let rest = first(15, whole, first(16, !bounds::lowers_positive(left), 0));
-    first(15, !bounds::lowers_present(left), rest)
+    let rest = first(
+        BOUND_KINDS,
+        whole,
+        first(CONDITION, !bounds::lowers_positive(left), 0),
+    );
+    first(BOUND_KINDS, !bounds::lowers_present(left), rest)
 }
 
 // 15 and 16 are done for the base, then for the data.
@@ -169,9 +196,13 @@ fn log_code(left: &[u8], right: &[u8], l: Head) -> u32
     ensures { λ o. ⌜ o ≡ firstFailing (logChecks (decode narrow (now (left .entry))) (decode narrow (now (right .entry)))) ⌝ }
 {
     let present = bounds::lowers_present(right) & bounds::uppers_present(right);
-    let suited = first(16, !bounds::all_suit_as_base(right), data_code(left, right));
-    let rest = first(15, !present, suited);
-    first(14, l.data_type != form::FLOAT_TYPE, rest)
+    let suited = first(
+        CONDITION,
+        !bounds::all_suit_as_base(right),
+        data_code(left, right),
+    );
+    let rest = first(BOUND_KINDS, !present, suited);
+    first(TYPES, l.data_type != form::FLOAT_TYPE, rest)
 }
 
 fn bound_code(c: Component, left: &[u8], right: &[u8], l: Head, r: Head) -> u32
@@ -197,7 +228,7 @@ pub fn copy_code(c: Component, left: &[u8], right: &[u8], l: Head, r: Head) -> u
     ensures { λ o. ⌜ o ≡ firstFailing (copyChecks (decode narrow (now (left .entry))) (decode narrow (now (right .entry))) (boundChecksOf c (decode narrow (now (left .entry))) (decode narrow (now (right .entry))))) ⌝ }
 {
     let bounds = bound_code(c, left, right, l, r);
-    let columns = first(11, crate::columns_absent(l), 0);
+    let columns = first(NO_COLUMNS, crate::columns_absent(l), 0);
     operands_code(l, r, after(bounds, columns))
 }
 
@@ -206,5 +237,5 @@ pub fn last_code(left: &[u8], right: &[u8], l: Head, r: Head) -> u32
     requires { ⌜ Operand narrow (now left) l × Operand narrow (now right) r ⌝ }
     ensures { λ o. ⌜ o ≡ firstFailing (lastChecks (decode narrow (now (left .entry))) (decode narrow (now (right .entry)))) ⌝ }
 {
-    first(8, groups_clash(left, right, l, r), 0)
+    first(GROUPS, groups_clash(left, right, l, r), 0)
 }

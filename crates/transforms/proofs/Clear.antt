@@ -13,6 +13,7 @@ use Rattle.numbers.specs.Kind.{Kind, Span, whole, float, fitting, eqZ}
 use Rattle.numbers.specs.declared.Checked.{Checked}
 use Rattle.numbers.specs.declared.Checked.the-variants.{Fits, Leaves}
 use Rattle.utilities.specs.Lists.{every, standardized, repeated}
+use Rattle.utilities.proofs.Built.{both-hold}
 use Rattle.utilities.specs.Columns.{spreads, each, eachPair}
 use Rattle.base.specs.Form.{intType}
 use Rattle.base.specs.Encode.{total}
@@ -21,7 +22,7 @@ use Rattle.base.specs.declared.Component.the-variants as C
 use Rattle.ends.specs.Ends.{both, present, fromTwo, fromOne, fromBoth, addEnds, subEnds, negEnds, absLower, absUpper, absEnds, corners, mulCorners, mulEnds, divCorners, divUpper, divLower, divPresent, divBy, divEnds, modEnds, endRule}
 use Rattle.ranges.specs.Ranges.{wholeRule, rangePair, rangeAlone}
 use Rattle.categories.specs.Categories.{categoryRule, row, pairs, product, combined, mapped, counted, limited}
-use Rattle.transforms.proofs.Passing.{Passing, both-hold}
+use Rattle.transforms.proofs.Passing.{Passing}
 
 -- a value, or a refusal with another number
 pub data Clear {X : Type 0} : Result X → Type 0 where

@@ -16,7 +16,6 @@ use Rattle.numbers.specs.Kind.{Span, whole, float}
 use Rattle.utilities.specs.Lists.{every}
 use Rattle.base.specs.Form.{Form, intType, floatType}
 use Rattle.base.specs.Sheet.{Sheet, Nature, absent, wholeRange, floatRange, wholeLists, boolLists, floatLists}
-use Rattle.base.specs.Encode.{natureNumber}
 use Rattle.base.specs.Bounds.{wholeLowersPresent, lowersNonNegative}
 use Rattle.base.specs.Checks.{read, sheetChecks}
 use Rattle.base.specs.Components.{componentOf, isUnary}
@@ -29,7 +28,7 @@ use Rattle.ranges.specs.Ranges.{wholeRule}
 use Rattle.shape.specs.Shape.{columnsOf, columnsAbsent, widest}
 use Rattle.shape.specs.Orders.{unaryChecks, pairChecks, bothOf, copyChecks, lastChecks}
 use Rattle.shape.specs.Parts.{boundChecksOf}
-use Rattle.transforms.specs.Natures.{ruleFor, ruled, wholeListsOf, isFloatLists, noLists, listsPair, listsAlone, wholeRangeWith, floatRangeWith, listsWith, binaryNature, unaryNature}
+use Rattle.transforms.specs.Natures.{ruleFor, ruled, wholeListsOf, listChecks, bothListChecks, listsPair, listsAlone, wholeRangeWith, floatRangeWith, listsWith, binaryNature, unaryNature}
 use Rattle.transforms.specs.Derive.{deriveUnary, derivePair, deriveCopy, derive}
 use Rattle.transforms.specs.Single.{Outcome, stepSheet, step, delivery, singleOf, single}
 use Rattle.transforms.specs.Unreached.{isLists}
@@ -56,20 +55,13 @@ module _ (limit : ℕ) (c : Component) (type columns : ℕ) where
   pair-clear : isIntPower c type ≡ false → (l r : Nature) → Clear (listsPair limit c type columns l r)
   unfolding listsPair every
   pair-clear e l r =
-      checked-clear
-      (check 19 (isFloatLists l)
-      ∷ check 20 (noLists l)
-      ∷ check 19 (isFloatLists r)
-      ∷ check 20 (noLists r)
-      ∷ check 21 (not (eqb (natureNumber l) (natureNumber r)))
-      ∷ [])
-      refl
+      checked-clear (bothListChecks l r) refl
       (λ p. ruled-clear (ruleFor c type l) _ (rule-for-clear e l) (λ rule f. limited-clear limit (combined-clear rule f columns (wholeListsOf l) (wholeListsOf r))))
 
   alone-clear : isIntPower c type ≡ false → (l : Nature) → Clear (listsAlone limit c type columns l)
   unfolding listsAlone every
   alone-clear e l =
-      checked-clear (check 19 (isFloatLists l) ∷ check 20 (noLists l) ∷ []) refl
+      checked-clear (listChecks l) refl
       (λ p. ruled-clear (ruleFor c type l) _ (rule-for-clear e l) (λ rule f. limited-clear limit (mapped-clear rule f columns (wholeListsOf l))))
 
   -- a pair of categories does not meet Int Power

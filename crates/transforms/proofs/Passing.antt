@@ -13,6 +13,7 @@ use lib.Dec.{T, eqb}
 use borrow.Author.Tests.{not-true, not-false, eq-eqb, eqb-true}
 use Rattle.numbers.specs.Result.{Check, check, firstFailing}
 use Rattle.utilities.specs.Lists.{every}
+use Rattle.utilities.proofs.Built.{both-hold}
 use Rattle.base.specs.Form.{narrow, byteAt, natureAt, isRangeNature, intType, floatType}
 use Rattle.base.specs.Sheet.{Fields, Nature, absent, wholeRange, floatRange, wholeLists, boolLists, floatLists}
 use Rattle.base.specs.Decode.{asFloat, asWhole, asBits, entries, lists, fieldsIn, natureIn, decode}
@@ -35,10 +36,6 @@ use Rattle.transforms.specs.Code.{ruledByNumber, Reached, hasRule, isPai
 abbrev pub Passing : List Check → Type 0
 Passing [] = Unit {0}
 Passing (c ∷ cs) = (c .fails ≡ false) × Passing cs
-
-pub both-hold : (t r : Bool) → cond t r false ≡ true → (t ≡ true) × (r ≡ true)
-both-hold true r e = (refl, e)
-both-hold false r e = absurd (subst T (sym e) tt)
 
 none-fails : (t : Bool) (k m : ℕ) → eqb k 0 ≡ false → cond t k m ≡ 0 → (t ≡ false) × (m ≡ 0)
 none-fails true k m h e = absurd (subst T (sym (eq-eqb k 0 e) ∙ h) tt)

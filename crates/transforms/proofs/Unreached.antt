@@ -3,7 +3,7 @@
 --     float-power-refused     two category operands of any other Power are refused without a rule
 -- Assumes nothing.
 use mathlib.Core.Path.{_≡_, refl, sym, subst}
-use mathlib.Core.Bool.{Bool, true, false, cond, not, _&&_}
+use mathlib.Core.Bool.{Bool, true, false, cond, _&&_}
 use mathlib.Core.List.{List, [], _∷_, _++_}
 use mathlib.Core.Option.{none}
 use mathlib.Core.Logic.{_⊎_, inl, inr, ⊎-elim}
@@ -16,9 +16,9 @@ use Rattle.numbers.specs.Result.{Result, refused, Check, check, checked}
 use Rattle.numbers.specs.Kind.{Span}
 use Rattle.numbers.proofs.Results.{then-refused}
 use Rattle.utilities.specs.Lists.{every, has}
+use Rattle.utilities.proofs.Built.{both-hold}
 use Rattle.base.specs.Form.{intType, floatType}
 use Rattle.base.specs.Sheet.{Sheet, Nature, absent, wholeRange, floatRange, wholeLists, boolLists, floatLists, isWholeRange}
-use Rattle.base.specs.Encode.{natureNumber}
 use Rattle.base.specs.Bounds.{everyEntry, lowersPresent, wholeLowersPresent}
 use Rattle.base.specs.declared.Component.{Component}
 use Rattle.base.specs.declared.Component.the-variants as C
@@ -26,10 +26,9 @@ use Rattle.categories.specs.Categories.{categoryRule}
 use Rattle.shape.specs.Shape.{columnsOf, columnsAbsent}
 use Rattle.shape.specs.Orders.{bothOf, powerChecks, copyChecks}
 use Rattle.shape.specs.Parts.{boundChecksOf}
-use Rattle.transforms.specs.Natures.{ruleFor, isFloatLists, noLists, listsPair, listsWith, binaryNature}
+use Rattle.transforms.specs.Natures.{ruleFor, bothListChecks, listsPair, listsWith, binaryNature}
 use Rattle.transforms.specs.Derive.{deriveCopy, derive}
 use Rattle.transforms.specs.Unreached.{RefusedWith, isLists, readsRight}
-use Rattle.transforms.proofs.Passing.{both-hold}
 use Rattle.transforms.proofs.Never.{and-no}
 
 -- ---- checks in a row that refuse
@@ -157,14 +156,7 @@ module _ (limit type columns : ℕ) (e : eqb type intType ≡ false) where
   unfolding listsPair every has
   lists-refused l r =
       rw (no-power-rule type l e)
-      (refused-after unruled _
-      (check 19 (isFloatLists l)
-      ∷ check 20 (noLists l)
-      ∷ check 19 (isFloatLists r)
-      ∷ check 20 (noLists r)
-      ∷ check 21 (not (eqb (natureNumber l) (natureNumber r)))
-      ∷ [])
-      refl
+      (refused-after unruled _ (bothListChecks l r) refl
       (record { number = 22; among = refl; is = refl }))
 
   with-refused : (l r : Nature) → isLists r ≡ true → RefusedWith unruled (listsWith limit C.Power type columns l r)

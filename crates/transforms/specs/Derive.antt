@@ -1,7 +1,7 @@
 -- `propagate_property` on sheets: the checks of a component in their order, and the sheet that it derives. No rule reads a node number.
 use mathlib.Core.List.{List}
 use Prim.Native.Nat.{ℕ}
-use Rattle.numbers.specs.Result.{Result, ok, refused, andThen, Check, checked}
+use Rattle.numbers.specs.Result.{Result, ok, andThen, Check, checked}
 use Rattle.base.specs.Sheet.{Sheet}
 use Rattle.base.specs.declared.Component.{Component}
 use Rattle.base.specs.declared.Component.the-variants as C

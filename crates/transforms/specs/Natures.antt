@@ -1,12 +1,12 @@
 -- `propagate_unary_nature` and `propagate_binary_nature`: 17 to 26, and the nature derived.
 use mathlib.Core.Bool.{Bool, not}
-use mathlib.Core.List.{List, [], _∷_}
+use mathlib.Core.List.{List, [], _∷_, _++_}
 use mathlib.Core.Option.{Option, none, some}
 use Prim.Native.Nat.{ℕ}
 use lib.IntN.{ℤ}
 use lib.Dec.{eqb}
 use lib.Ieee.{Float}
-use Rattle.numbers.specs.Result.{Result, ok, refused, andThen, check, checked}
+use Rattle.numbers.specs.Result.{Result, ok, refused, andThen, Check, check, checked}
 use Rattle.numbers.specs.Kind.{Span, whole, float}
 use Rattle.base.specs.Form.{floatListsNature}
 use Rattle.base.specs.Sheet.{Nature, absent, wholeRange, floatRange, wholeLists, boolLists, floatLists}
@@ -44,22 +44,23 @@ isFloatLists k = eqb (natureNumber k) floatListsNature
 abbrev pub noLists : Nature → Bool
 noLists k = eqb (entryCount k) 0
 
+abbrev pub listChecks : Nature → List Check
+listChecks k = check 19 (isFloatLists k) ∷ check 20 (noLists k) ∷ []
+
+-- left's before right's; 21: "The category kinds differ"
+abbrev pub bothListChecks : Nature → Nature → List Check
+bothListChecks l r = listChecks l ++ listChecks r ++ (check 21 (not (eqb (natureNumber l) (natureNumber r))) ∷ [])
+
 module _ (limit : ℕ) (c : Component) (type columns : ℕ) where
   -- two category operands: 19 to 22, then the product
   unfoldable pub listsPair : Nature → Nature → Result Nature
   listsPair l r =
-      checked
-      (check 19 (isFloatLists l)
-      ∷ check 20 (noLists l)
-      ∷ check 19 (isFloatLists r)
-      ∷ check 20 (noLists r)
-      ∷ check 21 (not (eqb (natureNumber l) (natureNumber r)))
-      ∷ [])
+      checked (bothListChecks l r)
       (ruled (ruleFor c type l) (λ rule. limited limit (combined rule columns (wholeListsOf l) (wholeListsOf r))))
 
   unfoldable pub listsAlone : Nature → Result Nature
   listsAlone l =
-      checked (check 19 (isFloatLists l) ∷ check 20 (noLists l) ∷ [])
+      checked (listChecks l)
       (ruled (ruleFor c type l) (λ rule. limited limit (mapped rule columns (wholeListsOf l))))
 
   unfoldable pub wholeRangeWith : List (Span ℤ) → Nature → Result Nature

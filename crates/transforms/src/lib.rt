@@ -2,6 +2,7 @@
 use base::Component;
 use base::Head;
 use base::form;
+use base::refusals;
 use bytes::Put;
 use writer::Derived;
 use writer::Parts;
@@ -23,9 +24,6 @@ ghost use Rattle.transforms.specs.Single.{step, delivery};
 ghost use Rattle.transforms.specs.Code.{Read, isPair, isCopy, stepIn, Held, given, refusalOf};
 
 mod natures;
-
-// 27: the sheet does not fit the lent buffer.
-const NO_ROOM: u32 = 27;
 
 // How long the two buffers of a derived nature are.
 const FIRST_ROOM: usize = form::END_WIDTH * form::LIST_LIMIT;
@@ -224,7 +222,7 @@ pub fn deliver_sheet(put: Put, scratch: &[u8], out: &mut [u8]) -> Put
             if bytes::deliver(out, scratch, n) {
                 return Put::At(n);
             }
-            Put::Refused(NO_ROOM)
+            Put::Refused(refusals::NO_ROOM)
         }
     }
 }

@@ -1,6 +1,7 @@
 // `propagate_unary_nature` and `propagate_binary_nature`: 17 to 26, and the nature derived, its arrays at the start of two lent buffers.
 use base::Component;
 use base::form;
+use base::refusals;
 use writer::Derived;
 use writer::Parts;
 ghost use mathlib.Core.Path.{_≡_};
@@ -34,10 +35,10 @@ fn lists_code(nature: u8, lists: usize) -> u32
     ensures { λ r. ⌜ r ≡ firstFailing (check 19 (eqb nature floatListsNature) ∷ check 20 (eqb lists 0) ∷ []) ⌝ }
 {
     if nature == form::FLOAT_LISTS {
-        return 19;
+        return refusals::FLOAT_CATEGORIES;
     }
     if lists == 0 {
-        return 20;
+        return refusals::NO_LISTS;
     }
     0
 }
@@ -85,13 +86,13 @@ fn propagate_binary_categorical_nature(
         return Derived::Refused(m);
     }
     if x != y {
-        return Derived::Refused(21);
+        return Derived::Refused(refusals::CATEGORY_KINDS);
     }
     if x == form::BOOL_LISTS {
-        return Derived::Refused(22);
+        return Derived::Refused(refusals::NO_RULE);
     }
     if !has_rule(c) {
-        return Derived::Refused(22);
+        return Derived::Refused(refusals::NO_RULE);
     }
     categories::lists_pair(c, columns, left, right, first, second)
 }
@@ -115,7 +116,7 @@ fn propagate_unary_categorical_nature(
         return Derived::Refused(k);
     }
     if x == form::BOOL_LISTS {
-        return Derived::Refused(22);
+        return Derived::Refused(refusals::NO_RULE);
     }
     categories::lists_alone(c, columns, s, first, second)
 }
@@ -143,7 +144,7 @@ pub fn propagate_binary_nature(
     if form::is_range(x) {
         if form::is_range(y) {
             if x != y {
-                return Derived::Refused(17);
+                return Derived::Refused(refusals::RANGE_KINDS);
             }
             return ranges::range_pair(
                 c,

@@ -6,7 +6,7 @@ use Prim.Native.Nat.{ℕ, _+_, _-_, _<_, _≤_}
 use native.Mathlib.Numerals.{add-one}
 use native.Mathlib.Omega.{arith}
 use lib.IntN.{ℤ, pos}
-use lib.ListN.{length, take, drop, getD, set, length-append, length-take, take-append-drop}
+use lib.ListN.{length, take, drop, getD, set, length-append, length-take}
 use lib.Seq.{take-suc-set, drop-set-lt, drop-drop, length-take-le}
 use Rattle.numbers.specs.Kind.{eqZ}
 use Rattle.utilities.specs.Lists.{has, noted, firsts}
@@ -56,9 +56,6 @@ module _ {values : List ℤ} {n : ℕ} {out₀ out : List ℤ} (b : Begins value
         rest = s .rest ∙ sym (far out) ∙ ap (drop (m - n)) (b .rest) ∙ far out₀;
       }
 
-  pub begins-lacks : {v x : ℤ} {out′ : List ℤ} → v ≡ x → Lacks n v out out′ → has eqZ x values ≡ false
-  begins-lacks read s = sym (ap₂ (has eqZ) read (b .start)) ∙ s .new
-
 -- what `note_hinted` answered
 module _ (n : ℕ) (x : ℤ) (before after : List ℤ) {r : Noted} where
   pub notes-at : {m : ℕ} → r ≡ At m → Notes n x before after r → Begins (noted eqZ (take n before) x) m before after
@@ -66,14 +63,6 @@ module _ (n : ℕ) (x : ℤ) (before after : List ℤ) {r : Noted} where
 
   pub notes-full : r ≡ Full → Notes n x before after r → Lacks n x before after
   notes-full e h = subst (Notes n x before after) e h
-
--- a value that was known changes nothing
-pub begins-known : {n m : ℕ} (x : ℤ) {out out′ : List ℤ} → n ≤ length out → has eqZ x (take n out) ≡ true → Begins (noted eqZ (take n out) x) m out out′ → out′ ≡ out
-begins-known {n} {m} x {out} {out′} room h s =
-    let e = noted-known eqZ (take n out) x h in
-    let k : m ≡ n = s .count ∙ ap length e ∙ length-take-le n out room in
-    let front : take m out′ ≡ take m out = s .start ∙ e ∙ ap (λ (j : ℕ). take j out) (sym k) in
-    sym (take-append-drop m out′) ∙ ap₂ _++_ front (s .rest) ∙ take-append-drop m out
 
 -- the first i values of xs are done, and the next one is noted
 pub begins-next :

@@ -1,12 +1,12 @@
 -- The first occurrences have just the members of the list. Assumes nothing.
-use mathlib.Core.Path.{_≡_, refl, sym, ap, subst}
+use mathlib.Core.Path.{_≡_, refl, sym, subst}
 use mathlib.Core.Bool.{Bool, true, false, cond, _||_}
 use mathlib.Core.Logic.{_⊎_, inl, inr, ⊎-elim}
 use mathlib.Core.List.{List, [], _∷_, _++_, List·Memᴰ, List·Memᴰ·head, List·Memᴰ·tail, List·Memᴰ·not-nil, List·Memᴰ·eq-of-singleton, List·Memᴰ·append-cases, Memᴰ·append-left, Memᴰ·append-right, Memᴰ·cast}
 use lib.Dec.{T}
 use lib.IntN.{ℤ}
 use Rattle.numbers.specs.Kind.{eqZ}
-use Rattle.numbers.proofs.Choices.{eqZ-yes, eqZ-true}
+use Rattle.numbers.proofs.Choices.{eqZ-true}
 use Rattle.utilities.specs.Lists.{has, noted, firstsFrom, firsts}
 
 pub has-member : (x : ℤ) (l : List ℤ) → has eqZ x l ≡ true → List·Memᴰ x l
@@ -17,15 +17,6 @@ has-member x (y ∷ l) e = go (eqZ x y) refl (has-member x l) e
     go : (t : Bool) → eqZ x y ≡ t → (has eqZ x l ≡ true → List·Memᴰ x l) → t || has eqZ x l ≡ true → List·Memᴰ x (y ∷ l)
     go true h r e = List·Memᴰ·head (eqZ-true x y h)
     go false h r e = List·Memᴰ·tail (r e)
-
-pub member-has : (x : ℤ) (l : List ℤ) → List·Memᴰ x l → has eqZ x l ≡ true
-unfolding has
-member-has x (y ∷ l) (List·Memᴰ·head e) = ap (λ (t : Bool). t || has eqZ x l) (eqZ-yes x y e)
-member-has x (y ∷ l) (List·Memᴰ·tail m) = go (eqZ x y) (member-has x l m)
-  where
-    go : (t : Bool) → has eqZ x l ≡ true → t || has eqZ x l ≡ true
-    go true e = refl
-    go false e = e
 
 -- ---- one value
 

@@ -3,14 +3,10 @@ use mathlib.Core.Path.{_≡_, refl, sym, ap, _∙_}
 use mathlib.Core.Bool.{Bool}
 use mathlib.Core.List.{List, [], _∷_, map}
 use Prim.Native.Nat.{ℕ, _<_}
-use lib.ListN.{length, getD, replicate, length-map, length-replicate, getD-replicate, List·getD-map}
+use lib.ListN.{length, getD, replicate, length-map, getD-replicate, List·getD-map}
 use Rattle.utilities.specs.Lists.{firstsFrom, firsts, repeated, standardized}
 
 module _ {ℓ} {X : Type ℓ} (columns : ℕ) where
-  pub repeated-length : (l : X) → length (repeated columns (l ∷ [])) ≡ columns
-  unfolding repeated
-  repeated-length l = length-replicate columns l
-
   pub repeated-at : (l : X) (j : ℕ) (d : X) → j < columns → getD (repeated columns (l ∷ [])) j d ≡ l
   unfolding repeated
   repeated-at l j d h = getD-replicate columns j l d h

@@ -1,5 +1,5 @@
 -- 01, "Range ends": lists spread over the columns, and a rule taken column by column.
-use mathlib.Core.Bool.{Bool, not, _||_}
+use mathlib.Core.Bool.{Bool, _||_}
 use mathlib.Core.List.{List, [], _∷_}
 use Prim.Native.Nat.{ℕ}
 use lib.ListN.{length}

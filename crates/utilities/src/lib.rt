@@ -60,19 +60,12 @@ fn hint_of(n: usize) -> u8
     ((n % 255) as u8) + 1
 }
 
-// A byte as a size: a call of it asks nothing of the byte.
-fn wide(x: u8) -> usize
-    ensures { λ r. ⌜ r ≡ x ⌝ }
-{
-    x as usize
-}
-
 // `has`: a hint of 0 tells that x is new, another where it may stand.
 fn has_hinted(s: &[i64], n: usize, x: i64, hints: &[u8], at: usize) -> bool
     requires { ⌜ (n ≤ length (now s)) × Hinting (now hints) (take n (now s)) × (at ≡ hintAt x) ⌝ }
     ensures { λ r. ⌜ r ≡ has eqZ x (take n (now (s .entry))) ⌝ }
 {
-    let hint = wide(hints[at]);
+    let hint = bytes::wide(hints[at]);
     if hint == 0 {
         return false;
     }

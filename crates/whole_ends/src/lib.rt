@@ -1,6 +1,7 @@
 // The end rules of the nine components on whole numbers. An entry is [a, c] on the left and [d, f] on the right.
 use base::Bound;
 use base::Component;
+use base::refusals;
 use ends::End;
 use ends::Ends;
 use ends::Range;
@@ -39,7 +40,7 @@ fn end_of(r: Checked) -> End
     ensures { λ e. ⌜ e ≡ endOf ofWhole (present (fitting r)) ⌝ }
 {
     let Checked::Fits(z) = r else {
-        return End::Refused(ends::LEAVES_64_BITS);
+        return End::Refused(refusals::LEAVES_64_BITS);
     };
     End::Is(Bound::Whole(z))
 }
@@ -155,16 +156,16 @@ fn corners(p: Checked, q: Checked, r: Checked, s: Checked) -> Ends
     ensures { λ o. ⌜ o ≡ endsOf ofWhole (corners whole (fitting p) (fitting q) (fitting r) (fitting s)) ⌝ }
 {
     let Checked::Fits(a) = p else {
-        return Ends::Refused(ends::LEAVES_64_BITS);
+        return Ends::Refused(refusals::LEAVES_64_BITS);
     };
     let Checked::Fits(b) = q else {
-        return Ends::Refused(ends::LEAVES_64_BITS);
+        return Ends::Refused(refusals::LEAVES_64_BITS);
     };
     let Checked::Fits(c) = r else {
-        return Ends::Refused(ends::LEAVES_64_BITS);
+        return Ends::Refused(refusals::LEAVES_64_BITS);
     };
     let Checked::Fits(d) = s else {
-        return Ends::Refused(ends::LEAVES_64_BITS);
+        return Ends::Refused(refusals::LEAVES_64_BITS);
     };
     Ends::Are(Range {
         lower: Bound::Whole(least(a, b, c, d)),
@@ -214,10 +215,10 @@ fn div_upper(a: Integer, c: Integer, f: Integer) -> Ends
     ensures { λ r. ⌜ r ≡ endsOf ofWhole (divUpper whole a c f) ⌝ }
 {
     let Checked::Fits(p) = numbers::checked_div(a, f) else {
-        return Ends::Refused(ends::LEAVES_64_BITS);
+        return Ends::Refused(refusals::LEAVES_64_BITS);
     };
     let Checked::Fits(q) = numbers::checked_div(c, f) else {
-        return Ends::Refused(ends::LEAVES_64_BITS);
+        return Ends::Refused(refusals::LEAVES_64_BITS);
     };
     Ends::Are(Range {
         lower: Bound::Absent,
@@ -229,10 +230,10 @@ fn div_lower(a: Integer, c: Integer, d: Integer) -> Ends
     ensures { λ r. ⌜ r ≡ endsOf ofWhole (divLower whole a c d) ⌝ }
 {
     let Checked::Fits(p) = numbers::checked_div(a, d) else {
-        return Ends::Refused(ends::LEAVES_64_BITS);
+        return Ends::Refused(refusals::LEAVES_64_BITS);
     };
     let Checked::Fits(q) = numbers::checked_div(c, d) else {
-        return Ends::Refused(ends::LEAVES_64_BITS);
+        return Ends::Refused(refusals::LEAVES_64_BITS);
     };
     Ends::Are(Range {
         lower: Bound::Whole(lesser(p, q)),
@@ -268,18 +269,18 @@ fn div_by(a: Integer, c: Integer, lower: Bound, upper: Bound) -> Ends
 {
     let Bound::Whole(d) = lower else {
         let Bound::Whole(f) = upper else {
-            return Ends::Refused(ends::MAY_MEET_ZERO);
+            return Ends::Refused(refusals::MAY_MEET_ZERO);
         };
         if f < 0 {
             return ends::unknown();
         }
-        return Ends::Refused(ends::MAY_MEET_ZERO);
+        return Ends::Refused(refusals::MAY_MEET_ZERO);
     };
     let Bound::Whole(f) = upper else {
         if 0 < d {
             return ends::unknown();
         }
-        return Ends::Refused(ends::MAY_MEET_ZERO);
+        return Ends::Refused(refusals::MAY_MEET_ZERO);
     };
     optimize_quotient(a, c, d, f)
 }

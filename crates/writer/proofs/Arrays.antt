@@ -6,9 +6,9 @@
 use mathlib.Core.Path.{_≡_, refl, ap₂}
 use mathlib.Core.List.{List, [], _∷_}
 use Prim.Native.Nat.{ℕ, _+_, _*_}
-use native.Mathlib.Nat.{mul-zero, mul-suc, mul-add}
+use native.Mathlib.Nat.{mul-add}
 use native.Mathlib.Omega.{arith}
-use lib.ListN.{length, length-append}
+use lib.ListN.{length}
 use Rattle.utilities.specs.Lists.{listFrom}
 use Rattle.base.specs.Encode.{joined}
 use Rattle.writer.proofs.Sheets.{joined-length}

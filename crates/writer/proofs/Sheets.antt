@@ -1,17 +1,15 @@
 -- Laws of `sheetFrom`, the bytes of a sheet whose nature is in writing.
 --     sheet-written     a sheet's bytes, by its nature in writing
---     written-length    how many they are
 --     sheet-parts       the parts as they are appended
 -- Assumes nothing.
-use mathlib.Core.Path.{_≡_, refl, ap}
+use mathlib.Core.Path.{_≡_, refl}
 use mathlib.Core.List.{List, [], _∷_, _++_, append-assoc, append-nil}
-use Prim.Native.Nat.{ℕ, suc, _+_, _*_}
+use Prim.Native.Nat.{ℕ, _*_}
 use native.Mathlib.Nat.{mul-suc}
 use native.Mathlib.Omega.{arith}
 use lib.IntN.{ℤ}
 use lib.ListN.{length, length-append}
 use Rattle.bytes.specs.Le.{leBytes}
-use Rattle.bytes.proofs.Widths.{length-leBytes}
 use Rattle.base.specs.Form.{Form, narrow}
 use Rattle.base.specs.Sheet.{Group, Nature, absent, wholeRange, floatRange, wholeLists, boolLists, floatLists, Fields, Sheet}
 use Rattle.base.specs.Encode.{joined, rangeBytes, listsBytes, natureBytes, sizeBytes, markBytes, valueBytes, groupBytes, wholeBits, encode}
@@ -37,32 +35,7 @@ unfolding joined
 joined-length bytes n h [] = omega arith
 joined-length bytes n h (x ∷ xs) = simp length-append (rw mul-suc (omega (arith, h x, joined-length bytes n h xs)))
 
-mark-bytes-length : (nature : ℕ) (fields : Fields) → length (markBytes nature fields) ≡ 26
-unfolding markBytes
-mark-bytes-length nature fields = simp (length-append, length-leBytes)
-
-value-bytes-length : (fields : Fields) → length (valueBytes fields) ≡ 40
-unfolding valueBytes
-value-bytes-length fields = simp (length-append, length-leBytes)
-
-group-bytes-length : (gs : List Group) → length (groupBytes gs) ≡ 13 * length gs
-unfolding groupBytes
-group-bytes-length gs =
-    simp length-append
-    (omega (
-      arith,
-      joined-length (λ (g : Group). leBytes 4 (g .partition)) 4 (λ g. length-leBytes 4 (g .partition)) gs,
-      joined-length (λ (g : Group). g .kind ∷ leBytes 8 (wholeBits (g .index))) 9 (λ g. ap suc (length-leBytes 8 (wholeBits (g .index)))) gs,
-    ))
-
 module _ (fields : Fields) (node : ℤ) where
-  pub written-length :
-      (groups : List Group) (w : Written)
-      → length (sheetFrom narrow fields node groups w) ≡ 80 + 13 * length groups + length (w .first) + length (w .second)
-  unfolding sheetFrom
-  written-length groups w =
-      simp (length-append, length-leBytes, mark-bytes-length, value-bytes-length, group-bytes-length) (omega arith)
-
   -- g and gs are the number of the groups and their bytes
   pub sheet-parts :
       (groups : List Group) (w : Written) (g : ℕ) (gs : List ℕ) → length groups ≡ g → groupBytes groups ≡ gs

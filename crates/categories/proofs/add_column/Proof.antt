@@ -1,13 +1,9 @@
 -- `categories::add_column` meets its contract. Assumes nothing.
-use mathlib.Core.Path.{_≡_, subst}
-use mathlib.Core.List.{List}
-use Prim.Native.Nat.{ℕ, _≤_}
+use mathlib.Core.Path.{subst}
 use native.Mathlib.Omega.{arith}
-use lib.IntN.{ℤ}
-use lib.ListN.{length, take}
+use lib.ListN.{take}
 use denote.Ref.{now}
 use borrow.Author.Needs.{needs}
-use Rattle.numbers.specs.Result.{Result}
 use Rattle.categories.specs.Answers.{Produces, Held}
 use Rattle.categories.specs.declared.Product.{Product}
 use Rattle.categories.proofs.add_column.Statement.{statement}

@@ -1,7 +1,7 @@
 -- `categories::append_list` meets its contract. The invariant: what is written of each array, with the values that are left, is the whole of it.
 -- Assumes nothing.
 use mathlib.Core.Path.{_≡_, refl, sym, ap, _∙_}
-use mathlib.Core.List.{List, _++_}
+use mathlib.Core.List.{_++_}
 use Prim.Native.Nat.{ℕ, _+_, _*_, _-_, _≤_, _<_}
 use native.Mathlib.Omega.{arith}
 use lib.IntN.{ℤ, pos}
@@ -15,7 +15,7 @@ use Rattle.bytes.specs.Le.{leBytes}
 use Rattle.bytes.specs.Wrote.{Pending}
 use Rattle.bytes.proofs.Appends.{same-bytes, pending-start, pending-more, pending-end}
 use Rattle.base.specs.Encode.{wholeBits}
-use Rattle.categories.specs.Answers.{numberBytes, listBytes, Grown}
+use Rattle.categories.specs.Answers.{numberBytes, listBytes}
 use Rattle.categories.proofs.Gathering.{number-more, list-more, number-none, list-none}
 use Rattle.categories.proofs.append_list.Statement.{statement}
 use Rattle.categories.proofs.append_list.Tie as tie

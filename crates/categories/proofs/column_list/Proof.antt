@@ -1,14 +1,13 @@
 -- `categories::column_list` meets its contract. Assumes nothing.
-use mathlib.Core.Path.{_≡_, sym, ap, subst, _∙_}
+use mathlib.Core.Path.{sym, subst, _∙_}
 use mathlib.Core.List.{List}
-use native.Mathlib.Omega.{arith}
 use lib.IntN.{ℤ}
 use denote.Ref.{now}
 use borrow.Author.Needs.{needs}
 use Rattle.numbers.specs.Kind.{eqZ}
 use Rattle.utilities.specs.Lists.{firsts}
 use Rattle.utilities.specs.Noted.{Begins}
-use Rattle.base.specs.Form.{narrow, listCount}
+use Rattle.base.specs.Form.{narrow}
 use Rattle.base.specs.Decode.{asWhole, lists}
 use Rattle.categories.proofs.Operands.{listed-long, lists-length, pick-only, pick-own}
 use Rattle.categories.proofs.column_list.Statement.{statement}

@@ -2,14 +2,14 @@
 use mathlib.Core.Path.{_≡_, refl, sym, ap, subst, _∙_}
 use mathlib.Core.Logic.{_⊎_, inl, inr, ⊎-elim}
 use mathlib.Core.List.{List}
-use Prim.Native.Nat.{ℕ, _+_, _-_, _≤_, _<_}
+use Prim.Native.Nat.{ℕ, _-_, _≤_, _<_}
 use native.Mathlib.Omega.{arith}
 use lib.IntN.{ℤ}
 use lib.ListN.{length}
 use denote.Ref.{now}
 use borrow.Author.Needs.{needs}
 use Rattle.bytes.specs.declared.Put.{Put}
-use Rattle.numbers.specs.Result.{Result, ok, refused}
+use Rattle.numbers.specs.Result.{Result, refused}
 use Rattle.base.specs.Form.{narrow}
 use Rattle.base.specs.Decode.{asWhole, lists}
 use Rattle.writer.specs.Written.{inWriting, derivedIn}

@@ -2,9 +2,8 @@
 -- Assumes nothing.
 use mathlib.Core.Path.{_≡_, refl, sym, ap, _∙_}
 use mathlib.Core.List.{[]}
-use Prim.Native.Nat.{ℕ, _+_, _-_, _≤_, _<_}
+use Prim.Native.Nat.{ℕ, _+_, _-_, _≤_}
 use native.Mathlib.Omega.{arith}
-use lib.IntN.{ℤ}
 use lib.ListN.{length, take, getD}
 use lib.Seq.{length-take-le}
 use mir.Syntax.{w64}
@@ -65,7 +64,7 @@ loop-again c =
     let s = now (a .s) in
     let g = p .before .before .before .sizes-at .result .groups in
     let t = p .before .before .before .sizes-at .result .categories in
-    let other : listNumber narrow s g (l .i) ≡ a .j → ⊥ = λ e. c .if1 .taken (c .before .wide .ensures ∙ number-is s g (l .i) (p .number-at .ensures) ∙ e) in
+    let other : listNumber narrow s g (l .i) ≡ a .j → ⊥ = λ e. c .if1 .taken (c .before .wide .ensures .0 ∙ number-is s g (l .i) (p .number-at .ensures) ∙ e) in
     (l .inv .0, search needs, omega arith, l .inv .3, l .inv .4, taking-same (l .inv .5) (list-skips narrow s asWhole g t (a .j) (l .i) (p .before .loop-test .taken) other))
 
 i64-at-requires : tie.Need-i64-at-requires Inv-loop μ-loop
@@ -110,7 +109,7 @@ loop-again-2 c =
     let back : v ≡ z = search needs in
     let read = back ∙ n .before .before .before .i64-at .ensures ∙ ap (λ (k : ℕ). asWhole (leAt 8 k s)) (q .value-at .ensures) in
     let begins = notes-at (l .n) v (l .out) (n .note-hinted .last .0) (m .m .given .1) (n .note-hinted .ensures .0) in
-    let own = sym (number-is s g (l .i) (p .number-at .ensures)) ∙ sym (n .before .before .before .before .before .wide .ensures) ∙ n .before .before .before .before .if1 .left in
+    let own = sym (number-is s g (l .i) (p .number-at .ensures)) ∙ sym (n .before .before .before .before .before .wide .ensures .0) ∙ n .before .before .before .before .if1 .left in
     let has = list-has narrow s asWhole g t (a .j) (l .i) (p .before .loop-test .taken) own in
     let size : m .m .given .0 .0 ≤ l .i + 1 = omega (arith, begins .count, noted-length eqZ (take (l .n) (l .out)) v, length-take-le (l .n) (l .out) (begins-room (l .inv .5 .begins)), l .inv .2) in
     (l .inv .0, omega (arith, p .before .loop-test .taken), size, n .note-hinted .kept .0 ∙ l .inv .3, hinting-at (l .n) (n .note-hinted .last .0) (m .m .given .1) (n .note-hinted .ensures .1), taking-note (l .inv .5) has read begins)

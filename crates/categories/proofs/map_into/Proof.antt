@@ -12,7 +12,7 @@ use mir.Syntax.{w64}
 use mir.Val.{toZ, ofZ}
 use denote.Ref.{now}
 use borrow.Author.Needs.{needs}
-use Rattle.numbers.specs.Result.{Result, ok, refused}
+use Rattle.numbers.specs.Result.{Result, ok}
 use Rattle.numbers.specs.Kind.{fitting}
 use Rattle.numbers.specs.declared.Checked.{Checked}
 use Rattle.utilities.specs.Columns.{each}

@@ -2,12 +2,11 @@
 -- far as it has room. Assumes nothing.
 use mathlib.Core.Path.{_≡_, refl, sym, ap, _∙_}
 use mathlib.Core.Logic.{_⊎_, inl, inr, ⊎-elim}
-use mathlib.Core.Bool.{Bool, true, false}
 use mathlib.Core.List.{List}
 use Prim.Native.Nat.{ℕ, _+_, _-_, _≤_, _<_}
 use native.Mathlib.Omega.{arith}
 use lib.IntN.{ℤ, pos}
-use lib.ListN.{length, take, drop, getD}
+use lib.ListN.{length, take, getD}
 use lib.Seq.{length-take-le, getD-take}
 use mir.Syntax.{w64}
 use mir.Val.{toZ, ofZ}
@@ -22,9 +21,8 @@ use Rattle.utilities.specs.Noted.{Hinting}
 use Rattle.utilities.proofs.Begins.{notes-at, notes-full}
 use Rattle.utilities.proofs.Hints.{hinting-none, hinting-at, hinting-full}
 use Rattle.categories.specs.Categories.{product, ruleOf}
-use Rattle.categories.specs.Answers.{Produces}
 use Rattle.categories.specs.declared.Product.the-variants as P
-use Rattle.categories.proofs.Pairs.{rowFrom, pairsFrom, product-is, row-start, all-end, inRow, inPairs, next-pair, bad-pair, next-row, Storing, storing-start, storing-same, storing-refused, storing-room, storing-noted, storing-full, storing-over, storing-holds, storing-exceeds}
+use Rattle.categories.proofs.Pairs.{product-is, row-start, all-end, inRow, inPairs, next-pair, bad-pair, next-row, Storing, storing-start, storing-same, storing-refused, storing-room, storing-noted, storing-full, storing-over, storing-holds, storing-exceeds}
 use Rattle.categories.proofs.product_into.Statement.{statement}
 use Rattle.categories.proofs.product_into.Tie as tie
 

@@ -1,7 +1,7 @@
 -- `categories::repeat_into` meets its contract. The invariant: j columns are written, whatever the list that the answer tells of. Assumes nothing.
 use mathlib.Core.Path.{_≡_, refl, sym, ap, subst, _∙_}
 use mathlib.Core.List.{List}
-use Prim.Native.Nat.{ℕ, _+_, _-_, _≤_, _<_}
+use Prim.Native.Nat.{_-_, _≤_}
 use native.Mathlib.Omega.{arith}
 use lib.IntN.{ℤ}
 use lib.ListN.{length}
@@ -14,7 +14,7 @@ use Rattle.base.specs.Decode.{asWhole, lists}
 use Rattle.writer.specs.Written.{inWriting, derivedIn}
 use Rattle.writer.specs.declared.Derived.{Derived}
 use Rattle.categories.specs.Categories.{limited, ruleOf}
-use Rattle.categories.specs.Columnwise.{eachFrom, columnOf}
+use Rattle.categories.specs.Columnwise.{columnOf}
 use Rattle.categories.specs.Answers.{Produces, Adds}
 use Rattle.categories.proofs.Operands.{lists-length}
 use Rattle.categories.proofs.Columnwise.{from-same, column-one}

@@ -1,6 +1,4 @@
 -- `categories::spread` meets its contract. Assumes nothing.
-use mathlib.Core.Path.{sym, ap, _∙_}
-use mathlib.Core.Bool.{Bool, cond}
 use borrow.Author.Tests.{eq-eqb, ne-eqb}
 use Rattle.categories.proofs.spread.Statement.{statement}
 use Rattle.categories.proofs.spread.Tie as tie

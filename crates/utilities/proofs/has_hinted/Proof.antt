@@ -1,10 +1,10 @@
 -- `utilities::has_hinted` meets its contract: a hint of 0 tells that x is new, and a hint that leads to x that it is known. Assumes nothing.
-use mathlib.Core.Path.{_≡_, sym, ap, _∙_}
+use mathlib.Core.Path.{sym, ap, _∙_}
 use Prim.Native.Nat.{ℕ, _-_, _<_}
 use native.Mathlib.Omega.{arith}
 use borrow.Author.Needs.{needs}
 use lib.IntN.{ℤ, pos}
-use lib.ListN.{length, take, getD}
+use lib.ListN.{take, getD}
 use mir.Facts.{toZ-ofZ}
 use denote.Ref.{now}
 use Rattle.numbers.specs.Kind.{eqZ}
@@ -24,7 +24,7 @@ shared-slice-read-wide c =
 returns : tie.Need-returns
 returns c =
     let b = c .before .before .before .before in
-    let zero = ap (λ (k : ℕ). getD (now (b .args .hints)) k 0) (sym (b .pre .2)) ∙ sym (c .before .wide .ensures) ∙ c .if1 .taken in
+    let zero = ap (λ (k : ℕ). getD (now (b .args .hints)) k 0) (sym (b .pre .2)) ∙ sym (c .before .wide .ensures .0) ∙ c .if1 .taken in
     sym (b .pre .1 .new (b .args .x) zero)
 
 returns-2 : tie.Need-returns-2
