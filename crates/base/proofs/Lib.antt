@@ -6,3 +6,8 @@ pub mod Permitted
 pub mod Ends
 pub mod Natures
 pub mod Numbers
+pub mod Reader
+pub mod Through
+pub mod ThroughFurther
+pub mod Readings
+pub mod Above

@@ -1,20 +1,21 @@
 // The sheet: its form, its readers and checks, its records, and the components by their numbers.
 ghost use mathlib.Core.Path.{_≡_};
-ghost use Prim.Native.Nat.{_+_, _≤_, _<_};
+ghost use Prim.Native.Nat.{_+_, _≤_};
 ghost use lib.ListN.{length};
 ghost use Rattle.bytes.specs.Le.{leAt};
 ghost use Rattle.bytes.specs.Wrote.{Wrote};
 ghost use Rattle.base.specs.Form.{narrow, place, nodeAt, lengthCalledFor};
-ghost use Rattle.base.specs.Decode.{asWhole, asBits, optionAt, fieldsIn};
+ghost use Rattle.base.specs.Decode.{asWhole, fieldsIn};
 ghost use Rattle.base.specs.Checks.{read};
 ghost use Rattle.base.specs.Components.{numberOf, componentOf, isUnary};
-ghost use Rattle.base.specs.Code.{boundAt, boundBytes, signedOf, bitsIn, headFields, codeOf};
+ghost use Rattle.base.specs.Code.{boundAt, boundBytes, headFields, codeOf};
 ghost use Rattle.base.specs.Sized.{SizesIn};
 
 pub mod form; // limits, places and numbers
 pub mod refusals; // their numbers
 mod checks; // 3 and 4
 mod order; // 5
+mod view; // one view of a sheet's bytes
 
 // 01: "A bound is absent, a whole number or a float".
 pub enum Bound {
@@ -153,14 +154,7 @@ pub fn bound_at(s: &[u8], float: bool, at: usize) -> Bound
     requires { ⌜ at + 9 ≤ length (now s) ⌝ }
     ensures { λ r. ⌜ r ≡ boundAt float at (now (s .entry)) ⌝ }
 {
-    if s[at] == 0 {
-        return Bound::Absent;
-    }
-    if float {
-        Bound::Float(bytes::f64_at(s, at + 1))
-    } else {
-        Bound::Whole(bytes::i64_at(s, at + 1))
-    }
+    view::bound_in(view::view_of(s), float, at)
 }
 
 // Appends a bound at `at`; an absent one is all zero bits.
@@ -191,13 +185,11 @@ pub fn sizes_at(s: &[u8]) -> Sizes
     requires { ⌜ narrow .arraysAt ≤ length (now s) ⌝ }
     ensures { λ r. ⌜ SizesIn narrow (now (s .entry)) r ⌝ }
 {
-    let groups = bytes::u16_at(s, form::GROUPS_AT);
-    let lists = bytes::u16_at(s, form::LISTS_AT);
-    let categories = bytes::u16_at(s, form::CATEGORIES_AT);
+    let v = view::view_of(s);
     Sizes {
-        groups: groups as usize,
-        lists: lists as usize,
-        categories: categories as usize,
+        groups: view::size_in(v, form::GROUPS_AT),
+        lists: view::size_in(v, form::LISTS_AT),
+        categories: view::size_in(v, form::CATEGORIES_AT),
     }
 }
 
@@ -206,37 +198,11 @@ pub fn length_called_for(s: &[u8]) -> usize
     requires { ⌜ narrow .arraysAt ≤ length (now s) ⌝ }
     ensures { λ r. ⌜ r ≡ lengthCalledFor narrow (now (s .entry)) ⌝ }
 {
-    let groups = bytes::u16_at(s, form::GROUPS_AT);
-    let lists = bytes::u16_at(s, form::LISTS_AT);
-    let categories = bytes::u16_at(s, form::CATEGORIES_AT);
-    form::called_for(
-        s[form::NATURE_AT],
-        groups as usize,
-        lists as usize,
-        categories as usize,
-    )
-}
-
-// The signed 64 bits at `at`, where the byte at `mark` is not 0.
-fn option_i64_at(s: &[u8], mark: usize, at: usize) -> OptionI64
-    requires { ⌜ (mark < length (now s)) × (at + 8 ≤ length (now s)) ⌝ }
-    ensures { λ r. ⌜ signedOf r ≡ optionAt asWhole mark at (now (s .entry)) ⌝ }
-{
-    if s[mark] == 0 {
-        return OptionI64::Absent;
-    }
-    OptionI64::Is(bytes::i64_at(s, at))
-}
-
-// The 64 bits at `at`, where the byte at `mark` is not 0.
-fn option_u64_at(s: &[u8], mark: usize, at: usize) -> OptionU64
-    requires { ⌜ (mark < length (now s)) × (at + 8 ≤ length (now s)) ⌝ }
-    ensures { λ r. ⌜ bitsIn r ≡ optionAt asBits mark at (now (s .entry)) ⌝ }
-{
-    if s[mark] == 0 {
-        return OptionU64::Absent;
-    }
-    OptionU64::Is(bytes::u64_at(s, at))
+    let sizes = sizes_at(s);
+    let g = sizes.groups;
+    let n = sizes.lists;
+    let t = sizes.categories;
+    form::called_for(s[form::NATURE_AT], g, n, t)
 }
 
 // The fields of one value; what they are worth is for the checks to say.
@@ -244,26 +210,24 @@ pub fn read_head(s: &[u8]) -> Head
     requires { ⌜ narrow .arraysAt ≤ length (now s) ⌝ }
     ensures { λ r. ⌜ headFields r ≡ fieldsIn narrow (now (s .entry)) ⌝ }
 {
-    let c_stability = bytes::u32_at(s, form::C_STABILITY_AT);
-    let aggregator = bytes::u32_at(s, form::AGGREGATOR_AT);
-    let rows = option_i64_at(s, form::ROWS_MARK_AT, form::ROWS_AT);
-    let columns = option_u64_at(s, form::COLUMNS_MARK_AT, form::COLUMNS_AT);
-    let dataset = option_i64_at(s, form::DATASET_MARK_AT, form::DATASET_AT);
-    let dimensionality = option_i64_at(s, form::DIMENSIONALITY_MARK_AT, form::DIMENSIONALITY_AT);
-    let sample = option_u64_at(s, form::SAMPLE_MARK_AT, form::SAMPLE_AT);
+    let v = view::view_of(s);
     Head {
-        data_type: s[form::TYPE_AT],
-        nullity: s[form::NULLITY_AT] != 0,
-        releasable: s[form::RELEASABLE_AT] != 0,
-        not_empty: s[form::NOT_EMPTY_AT] != 0,
-        ordered: s[form::ORDERED_AT] != 0,
-        c_stability,
-        aggregator,
-        rows,
-        columns,
-        dataset,
-        dimensionality,
-        sample,
+        data_type: view::byte_in(v, form::TYPE_AT),
+        nullity: view::flag_in(v, form::NULLITY_AT),
+        releasable: view::flag_in(v, form::RELEASABLE_AT),
+        not_empty: view::flag_in(v, form::NOT_EMPTY_AT),
+        ordered: view::flag_in(v, form::ORDERED_AT),
+        c_stability: view::u32_in(v, form::C_STABILITY_AT),
+        aggregator: view::u32_in(v, form::AGGREGATOR_AT),
+        rows: view::option_i64_in(v, form::ROWS_MARK_AT, form::ROWS_AT),
+        columns: view::option_u64_in(v, form::COLUMNS_MARK_AT, form::COLUMNS_AT),
+        dataset: view::option_i64_in(v, form::DATASET_MARK_AT, form::DATASET_AT),
+        dimensionality: view::option_i64_in(
+            v,
+            form::DIMENSIONALITY_MARK_AT,
+            form::DIMENSIONALITY_AT,
+        ),
+        sample: view::option_u64_in(v, form::SAMPLE_MARK_AT, form::SAMPLE_AT),
     }
 }
 
@@ -272,7 +236,7 @@ pub fn node_at(s: &[u8]) -> i64
     requires { ⌜ narrow .arraysAt ≤ length (now s) ⌝ }
     ensures { λ r. ⌜ r ≡ asWhole (leAt 8 (place narrow nodeAt) (now (s .entry))) ⌝ }
 {
-    bytes::i64_at(s, form::NODE_AT)
+    view::i64_in(view::view_of(s), form::NODE_AT)
 }
 
 // ---- checks 3 to 5

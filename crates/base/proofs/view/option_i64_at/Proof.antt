@@ -1,4 +1,4 @@
--- `base::option_i64_at` meets its contract. Assumes nothing.
+-- `base::view::option_i64_at` meets its contract. Assumes nothing.
 use mathlib.Core.Path.{ap}
 use mathlib.Core.Option.{some}
 use lib.ListN.{getD}
@@ -8,8 +8,8 @@ use denote.Ref.{now}
 use borrow.Author.Tests.{eq-eqb, ne-eqb}
 use borrow.Author.Needs.{needs}
 use Rattle.base.specs.Decode.{optionAt}
-use Rattle.base.proofs.option_i64_at.Statement.{statement}
-use Rattle.base.proofs.option_i64_at.Tie as tie
+use Rattle.base.proofs.view.option_i64_at.Statement.{statement}
+use Rattle.base.proofs.view.option_i64_at.Tie as tie
 
 returns : tie.Need-returns
 unfolding optionAt

@@ -1,0 +1,82 @@
+-- What each reader through the view asks and gives: its contract, for the laws of `Through` and `ThroughFurther` and for the walks above the view. Assumes nothing.
+use mathlib.Core.Path.{_≡_, refl}
+use mathlib.Core.Bool.{not}
+use Prim.Native.Nat.{_+_, _<_, _≤_}
+use lib.Dec.{eqb}
+use lib.ListN.{length, getD}
+use mir.Syntax.{Width, w8, w32, w64, tyInt, tyBool}
+use mir.Val.{vint, vbool}
+use denote.Plain.{UInt, uint-tells, uint-makes, uint-lawful, bool-tells, bool-makes, bool-lawful}
+use denote.Signed.{SInt, sint-lawful, sint-makes}
+use denote.Builtin.{bool}
+use denote.Enum.Laws as EL
+use Rattle.bytes.specs.Le.{leAt}
+use Rattle.base.specs.Decode.{asWhole, asBits, optionAt}
+use Rattle.base.specs.Code.{boundAt, signedOf, bitsIn}
+use Rattle.base.proofs.Reader.{Result, Scalar}
+use Rattle.base.proofs.Through.{Offset}
+use Rattle.base.proofs.ThroughFurther.{Further}
+use Rattle.base.proofs.Bound as E
+use Rattle.base.proofs.Bound.Laws as E′
+use Rattle.base.proofs.OptionI64 as I
+use Rattle.base.proofs.OptionI64.Laws as I′
+use Rattle.base.proofs.OptionU64 as U
+use Rattle.base.proofs.OptionU64.Laws as U′
+
+-- the types of the results
+abbrev uint : Width → Result
+uint w = record { row = UInt w; mir = tyInt w; typed = λ 𝓤 H A W r u is. uint-lawful 𝓤 H A W w .typed r _ is .0; makes = λ 𝓤 H A W. uint-makes 𝓤 H A W w }
+
+abbrev sint : Width → Result
+sint w = record { row = SInt w; mir = tyInt w; typed = λ 𝓤 H A W r u is. sint-lawful 𝓤 H A W w .typed r _ is .0; makes = λ 𝓤 H A W. sint-makes 𝓤 H A W w }
+
+abbrev truth : Result
+truth = record { row = bool; mir = tyBool; typed = λ 𝓤 H A W r u is. bool-lawful 𝓤 H A W .typed r _ is .0; makes = λ 𝓤 H A W. bool-makes 𝓤 H A W }
+
+-- the types of the arguments beside the last offset: a mark's offset, and the kind of a range
+abbrev pub offset : Scalar
+offset = record { type = uint w64; low = vint w64; tells = uint-tells w64; last = λ x. tt; silent = λ x f. refl }
+
+abbrev pub kind : Scalar
+kind = record { type = truth; low = vbool; tells = bool-tells; last = λ x. tt; silent = λ x f. refl }
+
+-- `byte_in`, `flag_in`, `size_in`, `u32_in` and `i64_in`
+abbrev pub byte : Offset
+byte = record { result = uint w8; Asks = λ s at. at < length s; Gives = λ s at r. r ≡ getD s at 0 }
+
+abbrev pub flag : Offset
+flag = record { result = truth; Asks = λ s at. at < length s; Gives = λ s at r. r ≡ not (eqb (getD s at 0) 0) }
+
+abbrev pub size : Offset
+size = record { result = uint w64; Asks = λ s at. at + 2 ≤ length s; Gives = λ s at r. r ≡ leAt 2 at s }
+
+abbrev pub bits32 : Offset
+bits32 = record { result = uint w32; Asks = λ s at. at + 4 ≤ length s; Gives = λ s at r. r ≡ leAt 4 at s }
+
+abbrev pub whole : Offset
+whole = record { result = sint w64; Asks = λ s at. at + 8 ≤ length s; Gives = λ s at r. r ≡ asWhole (leAt 8 at s) }
+
+-- `option_i64_in`, `option_u64_in` and `bound_in`
+abbrev pub optionI64 : Further
+optionI64 = record {
+  P = offset;
+  result = record { row = I.the-row; mir = I′.mir; typed = λ 𝓤 H A W r u is. EL.lawful I.the-type I′.the-laws 𝓤 H A W tt .typed r _ is .0; makes = λ 𝓤 H A W. EL.makes I.the-type I′.the-plain 𝓤 H A };
+  Asks = λ s mark at. (mark < length s) × (at + 8 ≤ length s);
+  Gives = λ s mark at r. signedOf r ≡ optionAt asWhole mark at s;
+}
+
+abbrev pub optionU64 : Further
+optionU64 = record {
+  P = offset;
+  result = record { row = U.the-row; mir = U′.mir; typed = λ 𝓤 H A W r u is. EL.lawful U.the-type U′.the-laws 𝓤 H A W tt .typed r _ is .0; makes = λ 𝓤 H A W. EL.makes U.the-type U′.the-plain 𝓤 H A };
+  Asks = λ s mark at. (mark < length s) × (at + 8 ≤ length s);
+  Gives = λ s mark at r. bitsIn r ≡ optionAt asBits mark at s;
+}
+
+abbrev pub bound : Further
+bound = record {
+  P = kind;
+  result = record { row = E.the-row; mir = E′.mir; typed = λ 𝓤 H A W r u is. EL.lawful E.the-type E′.the-laws 𝓤 H A W tt .typed r _ is .0; makes = λ 𝓤 H A W. EL.makes E.the-type E′.the-plain 𝓤 H A };
+  Asks = λ s float at. at + 9 ≤ length s;
+  Gives = λ s float at r. r ≡ boundAt float at s;
+}
