@@ -1,10 +1,14 @@
--- The fields of a line, with a blank, which is 32, between two of them.
+-- Lines that say nothing, and the fields of a line, with a blank, which is 32, between two of them.
 use Prim.Native.Nat.{ℕ, zero, suc, _+_, _≤_}
 use mathlib.Core.Path.{_≡_}
-use mathlib.Core.Bool.{cond}
+use mathlib.Core.Bool.{Bool, true, cond}
 use mathlib.Core.List.{List, [], _∷_}
 use lib.Dec.{eqb}
-use lib.ListN.{length, drop}
+use lib.ListN.{length, drop, getD}
+
+-- a line that says nothing: it is empty, or begins with `#`, which is 35
+abbrev pub isComment : List ℕ → Bool
+isComment s = cond (eqb (length s) 0) true (eqb (getD s 0 0) 35)
 
 -- what stands before the first b, and what stands behind it
 unfoldable pub before : ℕ → List ℕ → List ℕ

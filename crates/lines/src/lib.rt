@@ -3,7 +3,7 @@ ghost use mathlib.Core.Path.{_≡_};
 ghost use Prim.Native.Nat.{_-_, _≤_, _<_};
 ghost use lib.ListN.{length};
 ghost use Rattle.lines.specs.Window.{Open, Inside, slid};
-ghost use Rattle.lines.specs.Fields.{Found, fieldCount, fieldOf};
+ghost use Rattle.lines.specs.Fields.{Found, isComment, fieldCount, fieldOf};
 ghost use Rattle.lines.specs.Digits.{hexDigit, joined, Below, numberMore, numberOf};
 ghost use Rattle.lines.specs.Bytes.{bytesIn, fieldBytes, Puts, Within};
 
@@ -130,7 +130,9 @@ fn first(buf: &[u8], filled: usize) -> Line
 }
 
 // Whether a line of a list says nothing: it is empty, or begins with `#`.
-pub fn is_comment(line: &[u8]) -> bool {
+pub fn is_comment(line: &[u8]) -> bool
+    ensures { λ r. ⌜ r ≡ isComment (now (line .entry)) ⌝ }
+{
     if line.len() == 0 {
         return true;
     }
