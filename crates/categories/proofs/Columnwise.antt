@@ -41,10 +41,10 @@ lesser-below (suc a) zero = (omega arith, omega arith)
 lesser-below (suc a) (suc b) = let r = lesser-below a b in (omega (arith, r .0), omega (arith, r .1))
 
 -- n of the columns that m lists have
-pub columns-within : (columns m n : ℕ) → n ≤ spreadOf columns m → columns ≤ 16 → m ≤ 16 → ((m ≡ 1 → ⊥) → n ≤ m) × (n ≤ 16)
-columns-within columns m n h c l = go (eqb m 1) refl h
+pub columns-within : {k : ℕ} (columns m n : ℕ) → n ≤ spreadOf columns m → columns ≤ k → m ≤ k → ((m ≡ 1 → ⊥) → n ≤ m) × (n ≤ k)
+columns-within {k} columns m n h c l = go (eqb m 1) refl h
   where
-    go : (b : Bool) → eqb m 1 ≡ b → n ≤ cond b columns m → ((m ≡ 1 → ⊥) → n ≤ m) × (n ≤ 16)
+    go : (b : Bool) → eqb m 1 ≡ b → n ≤ cond b columns m → ((m ≡ 1 → ⊥) → n ≤ m) × (n ≤ k)
     go true e h = (λ other. absurd (other (eqb-true m 1 e)), omega arith)
     go false e h = (λ other. h, omega arith)
 

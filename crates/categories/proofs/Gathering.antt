@@ -105,18 +105,18 @@ tally-none : (numbers values : List ℕ) → Tally 0 numbers values []
 unfolding total numbersFrom valuesOf joined
 tally-none numbers values = record { bound = omega arith; over = λ h. absurd (omega arith); count = λ h. refl; first = λ h. refl; second = λ h. refl }
 
-tally-over : {t : ℕ} {numbers values : List ℕ} {done : List (List ℤ)} → Tally t numbers values done → (xs : List ℤ) → 128 < t + length xs → 128 < total (done ++ (xs ∷ []))
-tally-over {t} {done = done} a xs h = go (ltb 128 t) refl
+tally-over : {t : ℕ} {numbers values : List ℕ} {done : List (List ℤ)} → Tally t numbers values done → (xs : List ℤ) → narrow .categoryLimit < t + length xs → narrow .categoryLimit < total (done ++ (xs ∷ []))
+tally-over {t} {done = done} a xs h = go (ltb (narrow .categoryLimit) t) refl
   where
-    go : (b : Bool) → ltb 128 t ≡ b → 128 < total (done ++ (xs ∷ []))
-    go true e = omega (arith, a .over (ltb-true 128 t e), total-append done xs)
-    go false e = omega (arith, a .count (ltb-false 128 t e), total-append done xs)
+    go : (b : Bool) → ltb (narrow .categoryLimit) t ≡ b → narrow .categoryLimit < total (done ++ (xs ∷ []))
+    go true e = omega (arith, a .over (ltb-true (narrow .categoryLimit) t e), total-append done xs)
+    go false e = omega (arith, a .count (ltb-false (narrow .categoryLimit) t e), total-append done xs)
 
 tally-more : {t : ℕ} {numbers values : List ℕ} {done : List (List ℤ)} {xs : List ℤ} {r : ℕ} {numbers′ values′ : List ℕ}
     → Tally t numbers values done → Grown xs (length done) t numbers values r numbers′ values′ → Tally r numbers′ values′ (done ++ (xs ∷ []))
 tally-more {t} {numbers} {values} {done} {xs} {r} a g =
     let sum = total-append done xs in
-    let within : r ≤ 128 → t ≤ 128 = λ h. omega (arith, g .count h) in
+    let within : r ≤ narrow .categoryLimit → t ≤ narrow .categoryLimit = λ h. omega (arith, g .count h) in
     record {
       bound = g .bound;
       over = λ h. tally-over a xs (g .over h);
@@ -128,22 +128,22 @@ tally-more {t} {numbers} {values} {done} {xs} {r} a g =
 tally-written : {n t : ℕ} {numbers values : List ℕ} {done : List (List ℤ)} → Tally t numbers values done → length done ≡ n
     → derivedIn (gathered n t) numbers values ≡ inWriting narrow (limited (narrow .categoryLimit) (ok done))
 unfolding gathered counted
-tally-written {n} {t} {numbers} {values} {done} a size = go (ltb 128 t) refl
+tally-written {n} {t} {numbers} {values} {done} a size = go (ltb (narrow .categoryLimit) t) refl
   where
-    limit : {b : Bool} → ltb 128 (total done) ≡ b → inWriting narrow (andThen (cond b (refused 26) (ok done)) (λ ls. ok (wholeLists ls))) ≡ inWriting narrow (limited 128 (ok done))
+    limit : {b : Bool} → ltb (narrow .categoryLimit) (total done) ≡ b → inWriting narrow (andThen (cond b (refused 26) (ok done)) (λ ls. ok (wholeLists ls))) ≡ inWriting narrow (limited (narrow .categoryLimit) (ok done))
     limit e = ap (λ (b : Bool). inWriting narrow (andThen (cond b (refused 26) (ok done)) (λ ls. ok (wholeLists ls)))) (sym e)
 
-    go : (b : Bool) → ltb 128 t ≡ b
+    go : (b : Bool) → ltb (narrow .categoryLimit) t ≡ b
         → derivedIn (cond b (D.Refused 26) (D.Nature (record { nature = 3; entries = n; values = t; first = t; second = 8 * t }))) numbers values
-        ≡ inWriting narrow (limited 128 (ok done))
-    go true e = limit (lt-ltb 128 (total done) (a .over (ltb-true 128 t e)))
+        ≡ inWriting narrow (limited (narrow .categoryLimit) (ok done))
+    go true e = limit (lt-ltb (narrow .categoryLimit) (total done) (a .over (ltb-true (narrow .categoryLimit) t e)))
     go false e =
-        let h = ltb-false 128 t e in
+        let h = ltb-false (narrow .categoryLimit) t e in
         let count = a .count h in
         let parts : _≡_ {A = Result Written} (ok (record { nature = 3; entries = n; values = t; first = take t numbers; second = take (8 * t) values })) (ok (writtenOf narrow (wholeLists done))) =
         (λ i. ok (record { nature = 3; entries = sym size i; values = count i; first = a .first h i; second = a .second h i }))
         in
-        parts ∙ limit (le-ltb 128 (total done) (omega arith))
+        parts ∙ limit (le-ltb (narrow .categoryLimit) (total done) (omega arith))
 
 -- j of n columns are done
 pub record Columns (f : ℕ → Result (List ℤ)) (n j t : ℕ) (numbers values : List ℕ) : Type 0 where

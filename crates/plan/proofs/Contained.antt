@@ -159,10 +159,10 @@ module _ (p work after : List ℕ) (a : Accepted p work after) where
         let d = a .derives k b c in
         let l = sheetOf narrow p work after (leftOf p k) in
         let r = sheetOf narrow p work after (rightOf p k) in
-        let e : derive 128 (d .component) l r ≡ ok (d .sheet) =
-        ap₂ (λ (x y : Sheet). derive 128 (d .component) x y) (sheet-after (leftOf p k)) (sheet-after (rightOf p k)) ∙ d .derived in
+        let e : derive (narrow .categoryLimit) (d .component) l r ≡ ok (d .sheet) =
+        ap₂ (λ (x y : Sheet). derive (narrow .categoryLimit) (d .component) x y) (sheet-after (leftOf p k)) (sheet-after (rightOf p k)) ∙ d .derived in
         let u = subst (λ (n : Numbered). Suits n l r) (d .listed) (h .components k b c) in
-        let s = good-numbered (d .component) k (d .sheet) xs ys (step-good 128 (d .component) l r (d .sheet) xs ys e g f (h .operandColumns k b c) u) in
+        let s = good-numbered (d .component) k (d .sheet) xs ys (step-good (narrow .categoryLimit) (d .component) l r (d .sheet) xs ys e g f (h .operandColumns k b c) u) in
         let is = sheet-after k ∙ d .is in
         subst
         (λ (n : Numbered). Good (sheetOf narrow p work after k) (listFrom (columnsOf (sheetOf narrow p work after k .fields)) 0 (λ j. exactOf n (columnOf xs j) (columnOf ys j))))

@@ -66,7 +66,7 @@ module _ (s : List ℕ) (small : AllBytes s) where
     unfolding entries
     entries-length = listFrom-length (spanAt narrow s read (groupCount narrow s) (listCount narrow s)) (listCount narrow s) 0
 
-    lists-fit : listCount narrow s ≤ 16 → ListsFit narrow P (lists narrow s read)
+    lists-fit : listCount narrow s ≤ narrow .listLimit → ListsFit narrow P (lists narrow s read)
     unfolding lists
     lists-fit h =
         let n = lists-length in
@@ -77,9 +77,9 @@ module _ (s : List ℕ) (small : AllBytes s) where
         }
 
   abbrev Fine : Nature → Type 0
-  Fine k = (entryCount k ≤ 16) × NatureFits narrow k
+  Fine k = (entryCount k ≤ narrow .listLimit) × NatureFits narrow k
 
-  nature-fine : listCount narrow s ≤ 16 → Fine (natureIn narrow s)
+  nature-fine : listCount narrow s ≤ narrow .listLimit → Fine (natureIn narrow s)
   unfolding natureIn
   nature-fine h =
       let k = byteAt narrow natureAt s in
@@ -130,6 +130,6 @@ module _ (s : List ℕ) (small : AllBytes s) where
         nature = n .1;
       }
     where
-      columns : (o : Option ℕ) → fieldsIn narrow s .columns ≡ o → Option·getD o 0 ≤ 16
+      columns : (o : Option ℕ) → fieldsIn narrow s .columns ≡ o → Option·getD o 0 ≤ narrow .columnLimit
       columns none e = omega arith
       columns (some c) e = columns-within narrow s (permitted narrow s (p .fields)) e .1

@@ -6,7 +6,7 @@ use mathlib.Core.Path.{_≡_, refl}
 use mathlib.Core.Bool.{Bool, true, false, cond}
 use mathlib.Core.List.{List, [], _∷_}
 use mathlib.Core.Option.{Option, none, some}
-use Prim.Native.Nat.{ℕ, _*_, _^_, _≤_, _<_}
+use Prim.Native.Nat.{ℕ, _+_, _*_, _^_, _≤_, _<_}
 use native.Mathlib.Omega.{arith}
 use lib.IntN.{ℤ, pos}
 use lib.ListN.{length}
@@ -55,7 +55,7 @@ rows-whole x y p q = go (rowsAgree x y)
     go true = present-whole (x .rows) (y .rows) (p .rows) (q .rows)
     go false = tt
 
-pair-fields : (more : Bool) (x y : Fields) → FieldsFit x → FieldsFit y → widest x y ≤ 16 → FieldsFit (pairFields more x y)
+pair-fields : (more : Bool) (x y : Fields) → FieldsFit x → FieldsFit y → widest x y ≤ narrow .columnLimit → FieldsFit (pairFields more x y)
 unfolding pairFields
 pair-fields more x y p q h =
     let a = p .cStability in
@@ -101,16 +101,16 @@ groups-held l r p q = go (l .fields .releasable)
     go true = (q .groupsWithin, q .groups)
     go false = (p .groupsWithin, p .groups)
 
-pair-sound : (c : Component) (l r : Sheet) → Held l → Held r → Gives Sound (derivePair 128 c l r)
+pair-sound : (c : Component) (l r : Sheet) → Held l → Held r → Gives Sound (derivePair (narrow .categoryLimit) c l r)
 unfolding derivePair pairFields
 pair-sound c l r p q =
     let a = p .columnsWithin in
     let b = q .columnsWithin in
-    let w : widest (l .fields) (r .fields) ≤ 16 = omega arith in
+    let w : widest (l .fields) (r .fields) ≤ narrow .columnLimit = omega arith in
     let g = groups-held l r p q in
     gives-checked Sound (pairChecks l r) _ refl
-    (gives-then (Made 128) Sound (binaryNature 128 c (l .fields .dataType) (widest (l .fields) (r .fields)) (l .nature) (r .nature)) _
-    (binary-made 128 c (l .fields .dataType) (widest (l .fields) (r .fields)) w (l .nature) (r .nature) (p .entriesWithin) (p .nature) (q .nature))
+    (gives-then (Made (narrow .categoryLimit)) Sound (binaryNature (narrow .categoryLimit) c (l .fields .dataType) (widest (l .fields) (r .fields)) (l .nature) (r .nature)) _
+    (binary-made (narrow .categoryLimit) c (l .fields .dataType) (widest (l .fields) (r .fields)) w (l .nature) (r .nature) (p .entriesWithin) (p .nature) (q .nature))
     (λ k m. record {
       held = record {
         groupsWithin = g .0;
@@ -124,14 +124,14 @@ pair-sound c l r p q =
       values = m .values;
     }))
 
-copy-sound : (c : Component) (bs : List Check) (l r : Sheet) → counted bs ≡ true → Held l → Held r → Gives Sound (deriveCopy 128 c bs l r)
+copy-sound : (c : Component) (bs : List Check) (l r : Sheet) → counted bs ≡ true → Held l → Held r → Gives Sound (deriveCopy (narrow .categoryLimit) c bs l r)
 unfolding deriveCopy copyFields
 copy-sound c bs l r n p q =
     let g = groups-held l r p q in
     gives-checked Sound (copyChecks l r bs) _
     (counted-append bs (check 11 (columnsAbsent (l .fields)) ∷ []) n refl)
-    (gives-then (Made 128) Sound (binaryNature 128 c (l .fields .dataType) (columnsOf (l .fields)) (l .nature) (r .nature)) _
-    (binary-made 128 c (l .fields .dataType) (columnsOf (l .fields)) (p .columnsWithin) (l .nature) (r .nature) (p .entriesWithin) (p .nature) (q .nature))
+    (gives-then (Made (narrow .categoryLimit)) Sound (binaryNature (narrow .categoryLimit) c (l .fields .dataType) (columnsOf (l .fields)) (l .nature) (r .nature)) _
+    (binary-made (narrow .categoryLimit) c (l .fields .dataType) (columnsOf (l .fields)) (p .columnsWithin) (l .nature) (r .nature) (p .entriesWithin) (p .nature) (q .nature))
     (λ k m. gives-checked Sound (lastChecks l r) (ok (copySheet l r k)) refl
     (record {
       held = record {
@@ -146,12 +146,12 @@ copy-sound c bs l r n p q =
       values = m .values;
     })))
 
-unary-sound : (c : Component) (l : Sheet) → Held l → Gives Sound (deriveUnary 128 c l)
+unary-sound : (c : Component) (l : Sheet) → Held l → Gives Sound (deriveUnary (narrow .categoryLimit) c l)
 unfolding deriveUnary
 unary-sound c l p =
     gives-checked Sound (unaryChecks (l .fields)) _ refl
-    (gives-then (Made 128) Sound (unaryNature 128 c (l .fields .dataType) (columnsOf (l .fields)) (l .nature)) _
-    (unary-made 128 c (l .fields .dataType) (columnsOf (l .fields)) (p .columnsWithin) (l .nature) (p .entriesWithin) (p .nature))
+    (gives-then (Made (narrow .categoryLimit)) Sound (unaryNature (narrow .categoryLimit) c (l .fields .dataType) (columnsOf (l .fields)) (l .nature)) _
+    (unary-made (narrow .categoryLimit) c (l .fields .dataType) (columnsOf (l .fields)) (p .columnsWithin) (l .nature) (p .entriesWithin) (p .nature))
     (λ k m. record {
       held = record {
         groupsWithin = p .groupsWithin;
@@ -242,9 +242,10 @@ sound-length s p =
     let g = h .groupsWithin in
     let n = h .entriesWithin in
     let t = p .values in
-    let a : cond (isRangeNature (natureNumber (s .nature))) (18 * entryCount (s .nature)) (9 * valueCount (s .nature)) ≤ 1152 = go (isRangeNature (natureNumber (s .nature))) n t in
+    let a = go (isRangeNature (natureNumber (s .nature))) n t in
     omega (arith, sheet-length narrow s, arrays-length narrow (s .nature))
   where
-    go : (b : Bool) → entryCount (s .nature) ≤ 16 → valueCount (s .nature) ≤ 128 → cond b (18 * entryCount (s .nature)) (9 * valueCount (s .nature)) ≤ 1152
+    go : (b : Bool) → entryCount (s .nature) ≤ narrow .listLimit → valueCount (s .nature) ≤ narrow .categoryLimit
+        → cond b (18 * entryCount (s .nature)) ((narrow .numberWidth + 8) * valueCount (s .nature)) ≤ (narrow .numberWidth + 8) * narrow .categoryLimit
     go true n t = omega arith
     go false n t = omega arith

@@ -131,7 +131,7 @@ pub record Made (limit : ℕ) (k : Nature) : Type 0 where
 
 -- at most as many as a sheet may have
 abbrev Few : {X : Type 0} → (X → Type 0) → List X → Type 0
-Few P xs = (length xs ≤ 16) × Each P xs
+Few P xs = (length xs ≤ narrow .listLimit) × Each P xs
 
 module _ (limit : ℕ) where
   none-made : Made limit absent
@@ -157,8 +157,8 @@ module _ (limit : ℕ) where
   ruled-made none rest f h = omega arith
   ruled-made (some rule) rest f h = h rule f
 
-  module _ (c : Component) (type columns : ℕ) (few : columns ≤ 16) where
-    pair-made : (ls : List (List ℤ)) (r : Nature) → length ls ≤ 16 → Each Wholes ls → Each Wholes (wholeListsOf r)
+  module _ (c : Component) (type columns : ℕ) (few : columns ≤ narrow .columnLimit) where
+    pair-made : (ls : List (List ℤ)) (r : Nature) → length ls ≤ narrow .listLimit → Each Wholes ls → Each Wholes (wholeListsOf r)
         → Gives (Made limit) (listsPair limit c type columns (wholeLists ls) r)
     unfolding listsPair combined
     pair-made ls r n p q =
@@ -172,10 +172,10 @@ module _ (limit : ℕ) where
         (pair-gives Wholes Wholes (product rule) (product-fits rule f) us vs (standard-each columns ls p) (standard-each columns (wholeListsOf r) q))
         (λ ns e m.
         let a = pair-length (product rule) us vs e in
-        let b = standard-within columns 16 ls few n in
+        let b = standard-within columns (narrow .listLimit) ls few n in
         (omega arith, m)))))
 
-    alone-made : (ls : List (List ℤ)) → length ls ≤ 16 → Each Wholes ls → Gives (Made limit) (listsAlone limit c type columns (wholeLists ls))
+    alone-made : (ls : List (List ℤ)) → length ls ≤ narrow .listLimit → Each Wholes ls → Gives (Made limit) (listsAlone limit c type columns (wholeLists ls))
     unfolding listsAlone mapped
     alone-made ls n p =
         let us = standardized eqZ columns ls in
@@ -187,7 +187,7 @@ module _ (limit : ℕ) where
         (each-gives Wholes Wholes (each (λ a. rule a a)) (λ l q. each-gives Whole Whole (λ a. rule a a) (λ a w. f a a w w) l q) us (standard-each columns ls p))
         (λ ns e m.
         let a = each-length (each (λ a. rule a a)) us e in
-        let b = standard-within columns 16 ls few n in
+        let b = standard-within columns (narrow .listLimit) ls few n in
         (omega arith, m)))))
 
     -- bool and float categories have no rule
@@ -256,7 +256,7 @@ module _ (limit : ℕ) where
     lists-with l (boolLists ms) h q = h (boolLists ms) tt
     lists-with l (floatLists ms) h q = h (floatLists ms) tt
 
-    pub binary-made : (l r : Nature) → entryCount l ≤ 16 → NatureFits narrow l → NatureFits narrow r
+    pub binary-made : (l r : Nature) → entryCount l ≤ narrow .listLimit → NatureFits narrow l → NatureFits narrow r
         → Gives (Made limit) (binaryNature limit c type columns l r)
     unfolding binaryNature
     binary-made absent r n p q = none-made
@@ -266,7 +266,7 @@ module _ (limit : ℕ) where
     binary-made (boolLists ls) r n p q = lists-with (boolLists ls) r (λ r f. no-bool ls r) q
     binary-made (floatLists ls) r n p q = lists-with (floatLists ls) r (λ r f. no-float ls r) q
 
-    pub unary-made : (l : Nature) → entryCount l ≤ 16 → NatureFits narrow l → Gives (Made limit) (unaryNature limit c type columns l)
+    pub unary-made : (l : Nature) → entryCount l ≤ narrow .listLimit → NatureFits narrow l → Gives (Made limit) (unaryNature limit c type columns l)
     unfolding unaryNature listsAlone
     unary-made absent n p = none-made
     unary-made (wholeRange xs) n p =

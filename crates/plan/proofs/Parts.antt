@@ -31,7 +31,7 @@ module _ (work : List ℕ) (k n : ℕ) (called : n ≡ lengthCalledFor narrow (s
   unfolding sheetIn
   ends-capped h =
       let s = slot narrow k work in
-      let whole : take n s ≡ s = take-all n s (omega (arith, length-take 1284 (drop (slotAt narrow k) work))) in
+      let whole : take n s ≡ s = take-all n s (omega (arith, length-take (longest narrow) (drop (slotAt narrow k) work))) in
       record {
         behind = omega arith;
         within = omega arith;
@@ -44,5 +44,5 @@ module _ (work : List ℕ) (k n : ℕ) (called : n ≡ lengthCalledFor narrow (s
       record {
         behind = omega arith;
         within = omega arith;
-        bytes = rw (add-sub-cancel-left, ← called) (sym (take-take n 1284 (drop (slotAt narrow k) work) h));
+        bytes = rw (add-sub-cancel-left, ← called) (sym (take-take n (longest narrow) (drop (slotAt narrow k) work) h));
       }

@@ -63,7 +63,7 @@ unary-any C.Negative n l r e = refl
 
 module _ (c : Component) (left right : List ℕ) where
   abbrev Deriving : Sheet → Type 0
-  Deriving s = (derive 128 c (decode narrow left) (decode narrow right) ≡ ok s) × Sound s
+  Deriving s = (derive (narrow .categoryLimit) c (decode narrow left) (decode narrow right) ≡ ok s) × Sound s
 
   -- they are those of the derived sheet
   record Written (k : ℕ) (vs : List ℕ) : Type 0 where
@@ -75,23 +75,23 @@ module _ (c : Component) (left right : List ℕ) where
   module _ (p : Held (decode narrow left)) (q : Held (decode narrow right)) where
     -- behind the left sheet, l
     abbrev behind : Sheet → Result Sheet
-    behind l = cond (isUnary c) (derive 128 c l l) (andThen (read narrow right) (λ r. derive 128 c l r))
+    behind l = cond (isUnary c) (derive (narrow .categoryLimit) c l l) (andThen (read narrow right) (λ r. derive (narrow .categoryLimit) c l r))
 
     behind-gives : Gives Deriving (behind (decode narrow left))
     behind-gives = go (isUnary c) refl
       where
         go : (t : Bool) → isUnary c ≡ t
-            → Gives Deriving (cond t (derive 128 c (decode narrow left) (decode narrow left)) (andThen (read narrow right) (λ r. derive 128 c (decode narrow left) r)))
+            → Gives Deriving (cond t (derive (narrow .categoryLimit) c (decode narrow left) (decode narrow left)) (andThen (read narrow right) (λ r. derive (narrow .categoryLimit) c (decode narrow left) r)))
         go true e =
             let l = decode narrow left in
-            gives-more Sound Deriving (derive 128 c l l) (derived-sound c l l p p) (λ s d f. (sym (unary-any c 128 l (decode narrow right) e) ∙ d, f))
+            gives-more Sound Deriving (derive (narrow .categoryLimit) c l l) (derived-sound c l l p p) (λ s d f. (sym (unary-any c (narrow .categoryLimit) l (decode narrow right) e) ∙ d, f))
         go false e =
             let l = decode narrow left in
             let r = decode narrow right in
             gives-then (λ x. Passed narrow right × (x ≡ r)) Deriving (read narrow right) _ (read-gives right)
             (λ x h.
-            subst (λ (y : Sheet). Gives Deriving (derive 128 c l y)) (sym (h .1))
-            (gives-more Sound Deriving (derive 128 c l r) (derived-sound c l r p q) (λ s d f. (d, f))))
+            subst (λ (y : Sheet). Gives Deriving (derive (narrow .categoryLimit) c l y)) (sym (h .1))
+            (gives-more Sound Deriving (derive (narrow .categoryLimit) c l r) (derived-sound c l r p q) (λ s d f. (d, f))))
 
     sheet-gives : Gives Deriving (stepSheet narrow c left right)
     unfolding stepSheet
@@ -135,7 +135,8 @@ drop-take (suc m) k (x ∷ l) = rw suc-add (drop-take m k l)
 slot-same : (n j : ℕ) (x y : List ℕ) → take n x ≡ take n y → slotAt narrow j + longest narrow ≤ n → slot narrow j x ≡ slot narrow j y
 slot-same n j x y e h =
     let m = slotAt narrow j in
-    sym (drop-take m 1284 x) ∙ ap (drop m) (sym (take-take (m + 1284) n x h) ∙ ap (take (m + 1284)) e ∙ take-take (m + 1284) n y h) ∙ drop-take m 1284 y
+    let i = m + longest narrow in
+    sym (drop-take m (longest narrow) x) ∙ ap (drop m) (sym (take-take i n x h) ∙ ap (take i) e ∙ take-take i n y h) ∙ drop-take m (longest narrow) y
 
 pub sheet-same : (n j : ℕ) (x y : List ℕ) → take n x ≡ take n y → slotAt narrow j + longest narrow ≤ n → sheetIn narrow j x ≡ sheetIn narrow j y
 unfolding sheetIn
@@ -148,10 +149,10 @@ unfolding sheetIn
 sheet-stands k s front rest p l =
     let vs = encode narrow s in
     let f = sound-formed s p in
-    let n = 1284 - length vs in
-    let size : 1284 ≡ length vs + n = omega (arith, sound-length s p) in
+    let n = longest narrow - length vs in
+    let size : longest narrow ≡ length vs + n = omega (arith, sound-length s p) in
     let cut : slot narrow k (front ++ (vs ++ rest)) ≡ vs ++ take n rest =
-    ap (take 1284) (drop-at front (vs ++ rest) (slotAt narrow k) l) ∙ ap (λ (m : ℕ). take m (vs ++ rest)) size ∙ take-append-add vs rest n in
+    ap (take (longest narrow)) (drop-at front (vs ++ rest) (slotAt narrow k) l) ∙ ap (λ (m : ℕ). take m (vs ++ rest)) size ∙ take-append-add vs rest n in
     ap (λ (t : List ℕ). decode narrow (sheetBytes narrow t)) cut
     ∙ ap (decode narrow) (sheet-bytes-back narrow-laid f (take n rest))
     ∙ ap (decode narrow) (sym (append-nil vs))

@@ -14,6 +14,7 @@ use borrow.Author.Needs.{needs}
 use Rattle.bytes.specs.Le.{leBytes}
 use Rattle.bytes.specs.Wrote.{Pending}
 use Rattle.bytes.proofs.Appends.{same-bytes, pending-start, pending-more, pending-end}
+use Rattle.base.specs.Form.{narrow}
 use Rattle.base.specs.Encode.{wholeBits}
 use Rattle.categories.specs.Answers.{numberBytes, listBytes}
 use Rattle.categories.proofs.Gathering.{number-more, list-more, number-none, list-none}
@@ -37,7 +38,7 @@ returns : tie.Need-returns Inv-loop μ-loop
 returns c =
     let s = c .before .before .before in
     let size = length-take-le (s .args .k) (now (s .args .store)) (s .pre .0 .0) in
-    let above : 128 < s .args .t + s .args .k = c .if1 .taken in
+    let above : narrow .categoryLimit < s .args .t + s .args .k = c .if1 .taken in
     record {
       bound = omega arith;
       over = λ h. omega (arith, size, above);
@@ -95,7 +96,7 @@ returns-2 c =
     let xs = take (a .k) (now (a .store)) in
     let size = length-take-le (a .k) (now (a .store)) (s .pre .0 .0) in
     let end : length xs ≤ l .i = omega (arith, size, c .loop-test .left) in
-    let within : a .t + a .k ≤ 128 = omega (arith, c .before .before .if1 .left) in
+    let within : a .t + a .k ≤ narrow .categoryLimit = omega (arith, c .before .before .if1 .left) in
     record {
       bound = omega arith;
       over = λ h. absurd (omega (arith, h));

@@ -22,7 +22,7 @@ map-into-requires : tie.Need-map-into-requires
 map-into-requires c κs =
     let call = c .before .before .before .before .column-list in
     let room = begins-room (call .ensures) in
-    let whole : length (call .last .1 .1 .0) ≡ 128 = call .kept .1 .1 .0 in
+    let whole : length (call .last .1 .1 .0) ≡ narrow .categoryLimit = call .kept .1 .1 .0 in
     (room, omega (arith, room, whole, c .before .before .before .before .before .before .before .before .pre .1))
 
 returns : tie.Need-returns

@@ -26,7 +26,7 @@ Inv-columns alone c n left right numbers₀ values₀ store₀ code₀ t₀ j₀
     (j ≤ n)
     × (length numbers ≡ length numbers₀)
     × (length values ≡ length values₀)
-    × (length store ≡ 128)
+    × (length store ≡ narrow .categoryLimit)
     × (code ≡ 0)
     × Columns (columnOf alone (ruleOf c) (lists narrow left asWhole) (lists narrow right asWhole)) n j t numbers values
 
@@ -132,7 +132,7 @@ unfolding Ended Whole
 returns c =
     ⊎-elim
     (λ d. absurd (c .if1 .taken (d .0)))
-    (λ f. (ap (λ (g : Result (List (List ℤ))). inWriting narrow (limited 128 g)) (sym (f .1)), tt))
+    (λ f. (ap (λ (g : Result (List (List ℤ))). inWriting narrow (limited (narrow .categoryLimit) g)) (sym (f .1)), tt))
     (ended (c .before) .2)
 
 gather-requires : tie.Need-gather-requires Inv-columns μ-columns

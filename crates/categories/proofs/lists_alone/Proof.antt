@@ -36,7 +36,7 @@ returns c =
     let ls = lists narrow left asWhole in
     let size = n .spread .ensures ∙ ap (spreadOf (a .columns)) (n .before .sizes-at .ensures .lists ∙ sym (lists-length narrow left asWhole)) in
     let e = mapped-is (ruleOf (a .c)) (a .columns) ls ls (n .spread .result) size in
-    (d .derive .ensures .0 ∙ ap (λ (g : Result (List (List ℤ))). inWriting narrow (limited 128 g)) e, d .derive .ensures .1)
+    (d .derive .ensures .0 ∙ ap (λ (g : Result (List (List ℤ))). inWriting narrow (limited (narrow .categoryLimit) g)) e, d .derive .ensures .1)
 
 pub lists-alone-spec : {M : Type 1} → statement M
 lists-alone-spec =

@@ -88,7 +88,7 @@ returns c =
     let e = subst (λ (q : Put). Adds q (f 0) (l .j) (l .t) (l .numbers) (l .values) numbers values) (c .before .put2 .given .1) (add .add-column .ensures (f 0) (col .column .ensures)) in
     let bad = columns-refused (l .inv .3 (f 0) (col .column .ensures)) (t .loop-test .taken) (e .1) in
     let one = column-one (a .alone) (ruleOf (a .c)) ls ms (lists-length narrow (now (a .left)) asWhole ∙ s .pre .0 .1) (lists-length narrow (now (a .right)) asWhole ∙ s .pre .0 .3) in
-    (ap (λ (g : Result (List (List ℤ))). inWriting narrow (limited 128 g)) (sym bad ∙ from-same (λ i. f 0) f (a .n) 0 one), tt)
+    (ap (λ (g : Result (List (List ℤ))). inWriting narrow (limited (narrow .categoryLimit) g)) (sym bad ∙ from-same (λ i. f 0) f (a .n) 0 one), tt)
 
 gather-requires : tie.Need-gather-requires Inv-loop μ-loop
 gather-requires c κs = (
@@ -109,7 +109,7 @@ returns-2 c =
     let whole =
     ap (λ (r : Derived). derivedIn r (l .numbers) (l .values)) (c .gather .ensures .0)
     ∙ columns-done (l .inv .3 (f 0) (col .column .ensures)) (omega (arith, c .before .loop-test .left))
-    ∙ ap (λ (g : Result (List (List ℤ))). inWriting narrow (limited 128 g)) (from-same (λ i. f 0) f (a .n) 0 one) in
+    ∙ ap (λ (g : Result (List (List ℤ))). inWriting narrow (limited (narrow .categoryLimit) g)) (from-same (λ i. f 0) f (a .n) 0 one) in
     (whole, c .gather .ensures .1)
 
 pub repeat-into-spec : {M : Type 1} → statement M

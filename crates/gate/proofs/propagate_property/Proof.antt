@@ -9,7 +9,7 @@ use Rattle.bytes.specs.declared.Put.{Put}
 use Rattle.transforms.specs.Single.{delivery, single}
 use Rattle.transforms.specs.Code.{given}
 use Rattle.transforms.proofs.Deliveries.{held-longer}
-use Rattle.base.specs.Form.{narrow}
+use Rattle.base.specs.Form.{narrow, longest}
 use Rattle.gate.proofs.Replies.{reply-is, single-unlisted, single-is}
 use Rattle.gate.proofs.propagate_property.Statement.{statement}
 use Rattle.gate.proofs.propagate_property.Tie as tie
@@ -23,8 +23,8 @@ returns c =
 deliver-sheet-requires : tie.Need-deliver-sheet-requires
 deliver-sheet-requires c κs =
     let s = c .before .before .before in
-    let long : 1284 ≤ length (s .step .last .1 .1 .1 .1 .0) = search needs in
-    held-longer (s .step .result) 1284 (length (s .step .last .1 .1 .1 .1 .0)) long (s .step .ensures .1)
+    let long : longest narrow ≤ length (s .step .last .1 .1 .1 .1 .0) = search needs in
+    held-longer (s .step .result) (longest narrow) (length (s .step .last .1 .1 .1 .1 .0)) long (s .step .ensures .1)
 
 -- what was delivered is the single call's answer
 answered : (c : tie.After-deliver-sheet) → let a = c .before .before .before .before .before .before .before .before .before .before .before .before .before .args in

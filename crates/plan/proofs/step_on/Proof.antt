@@ -4,11 +4,11 @@ use Prim.Native.Nat.{ℕ, _*_, _≤_}
 use lib.ListN.{length}
 use denote.Ref.{now}
 use borrow.Author.Needs.{needs}
-use Rattle.base.specs.Form.{narrow}
+use Rattle.base.specs.Form.{narrow, longest}
 use Rattle.base.specs.Components.{componentOf}
 use Rattle.transforms.specs.Single.{step, delivery}
 use Rattle.transforms.proofs.Deliveries.{held-longer}
-use Rattle.plan.specs.Walk.{sheetIn}
+use Rattle.plan.specs.Walk.{slotAt, sheetIn}
 use Rattle.plan.proofs.Parts.{part-lent, part-back}
 use Rattle.plan.proofs.Taken.{step-unlisted, step-taken}
 use Rattle.plan.proofs.step_on.Statement.{statement}
@@ -23,8 +23,8 @@ returns c =
 deliver-sheet-requires : tie.Need-deliver-sheet-requires
 deliver-sheet-requires c κs =
     let s = c .before .before .before in
-    let long : 1284 ≤ length (s .step .last .1 .1 .1 .1 .0) = search needs in
-    held-longer (s .step .result) 1284 (length (s .step .last .1 .1 .1 .1 .0)) long (s .step .ensures .1)
+    let long : longest narrow ≤ length (s .step .last .1 .1 .1 .1 .0) = search needs in
+    held-longer (s .step .result) (longest narrow) (length (s .step .last .1 .1 .1 .1 .0)) long (s .step .ensures .1)
 
 returns-2 : tie.Need-returns-2
 returns-2 c =
@@ -41,8 +41,8 @@ returns-2 c =
     let x = left .sheet-end .ensures .bytes ∙ ap (λ (j : ℕ). sheetIn narrow j work) (operands .before .left-operand .ensures) in
     let y = right .sheet-end2 .ensures .bytes ∙ ap (λ (j : ℕ). sheetIn narrow j work) (operands .right-operand .ensures) in
     let derived = taken .step .ensures .0 ∙ ap₂ (step narrow (named .numbered .given .0 .0) (a .k)) x y in
-    rw (part-back (a .k * 1284) work)
-    (step-taken (now (a .plan)) (a .k) work listed (done .deliver-sheet .result) _ (done .deliver-sheet .ensures .0 ∙ ap₂ delivery derived (part-lent (a .k * 1284) work)))
+    rw (part-back (slotAt narrow (a .k)) work)
+    (step-taken (now (a .plan)) (a .k) work listed (done .deliver-sheet .result) _ (done .deliver-sheet .ensures .0 ∙ ap₂ delivery derived (part-lent (slotAt narrow (a .k)) work)))
 
 pub step-on-spec : {M : Type 1} → statement M
 step-on-spec =

@@ -15,38 +15,38 @@ use Rattle.base.proofs.checks.sizes_fail.Tie as tie
 
 returns : tie.Need-returns
 unfolding sizesFail
-returns c = rw (lt-ltb (length (now (c .before .before .args .s))) 80 (c .if1 .taken))
+returns c = rw (lt-ltb (length (now (c .before .before .args .s))) (narrow .arraysAt) (c .if1 .taken))
 
 returns-2 : tie.Need-returns-2
 unfolding sizesFail
 returns-2 c =
     let s = now (c .before .before .before .before .args .s) in
     let z = c .before .sizes-at .ensures in
-    let g : 4 < groupCount narrow s = omega arith in
-    rw (le-ltb (length s) 80 (c .before .before .if1 .left), lt-ltb 4 (groupCount narrow s) g)
+    let g : narrow .groupLimit < groupCount narrow s = omega arith in
+    rw (le-ltb (length s) (narrow .arraysAt) (c .before .before .if1 .left), lt-ltb (narrow .groupLimit) (groupCount narrow s) g)
 
 returns-3 : tie.Need-returns-3
 unfolding sizesFail
 returns-3 c =
     let s = now (c .before .before .before .before .before .args .s) in
     let z = c .before .before .sizes-at .ensures in
-    let g : groupCount narrow s ≤ 4 = omega arith in
-    let n : 16 < listCount narrow s = omega arith in
-    rw (le-ltb (length s) 80 (c .before .before .before .if1 .left), le-ltb 4 (groupCount narrow s) g, lt-ltb 16 (listCount narrow s) n)
+    let g : groupCount narrow s ≤ narrow .groupLimit = omega arith in
+    let n : narrow .listLimit < listCount narrow s = omega arith in
+    rw (le-ltb (length s) (narrow .arraysAt) (c .before .before .before .if1 .left), le-ltb (narrow .groupLimit) (groupCount narrow s) g, lt-ltb (narrow .listLimit) (listCount narrow s) n)
 
 returns-4 : tie.Need-returns-4
 unfolding sizesFail
 returns-4 c =
     let s = now (c .before .before .before .before .before .before .args .s) in
     let z = c .before .before .before .sizes-at .ensures in
-    let g : groupCount narrow s ≤ 4 = omega arith in
-    let n : listCount narrow s ≤ 16 = omega arith in
-    let t : 128 < categoryCount narrow s = omega arith in
+    let g : groupCount narrow s ≤ narrow .groupLimit = omega arith in
+    let n : listCount narrow s ≤ narrow .listLimit = omega arith in
+    let t : narrow .categoryLimit < categoryCount narrow s = omega arith in
     rw (
-      le-ltb (length s) 80 (c .before .before .before .before .if1 .left),
-      le-ltb 4 (groupCount narrow s) g,
-      le-ltb 16 (listCount narrow s) n,
-      lt-ltb 128 (categoryCount narrow s) t,
+      le-ltb (length s) (narrow .arraysAt) (c .before .before .before .before .if1 .left),
+      le-ltb (narrow .groupLimit) (groupCount narrow s) g,
+      le-ltb (narrow .listLimit) (listCount narrow s) n,
+      lt-ltb (narrow .categoryLimit) (categoryCount narrow s) t,
     )
 
 returns-5 : tie.Need-returns-5
@@ -54,15 +54,15 @@ unfolding sizesFail
 returns-5 c =
     let s = now (c .before .before .before .before .before .before .before .before .args .s) in
     let z = c .before .before .before .before .before .sizes-at .ensures in
-    let g : groupCount narrow s ≤ 4 = omega arith in
-    let n : listCount narrow s ≤ 16 = omega arith in
-    let t : categoryCount narrow s ≤ 128 = omega arith in
+    let g : groupCount narrow s ≤ narrow .groupLimit = omega arith in
+    let n : listCount narrow s ≤ narrow .listLimit = omega arith in
+    let t : categoryCount narrow s ≤ narrow .categoryLimit = omega arith in
     let l : c .called-for .result ≡ lengthCalledFor narrow s = rw (c .called-for .ensures, z .groups, z .lists, z .categories) in
     rw (
-      le-ltb (length s) 80 (c .before .before .before .before .before .before .if1 .left),
-      le-ltb 4 (groupCount narrow s) g,
-      le-ltb 16 (listCount narrow s) n,
-      le-ltb 128 (categoryCount narrow s) t,
+      le-ltb (length s) (narrow .arraysAt) (c .before .before .before .before .before .before .if1 .left),
+      le-ltb (narrow .groupLimit) (groupCount narrow s) g,
+      le-ltb (narrow .listLimit) (listCount narrow s) n,
+      le-ltb (narrow .categoryLimit) (categoryCount narrow s) t,
     )
     (ap (λ (k : ℕ). not (eqb (length s) k)) l)
 

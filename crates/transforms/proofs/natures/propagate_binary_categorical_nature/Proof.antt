@@ -33,7 +33,7 @@ returns c =
     let z = c .before .before in
     let b = z .before .before .before .before .before .before .before in
     let a = b .args in
-    let e = left-fails 128 (a .c) (a .data-type) (a .columns) (now (a .left)) (now (a .right)) (b .pre .0) (z .sizes-at .ensures .lists) (c .before .lists-code .ensures) (c .if1 .taken) in
+    let e = left-fails (narrow .categoryLimit) (a .c) (a .data-type) (a .columns) (now (a .left)) (now (a .right)) (b .pre .0) (z .sizes-at .ensures .lists) (c .before .lists-code .ensures) (c .if1 .taken) in
     (ap (λ (g : Result Nature). inWriting narrow g) (sym e), tt)
 
 -- 19 and 20 have passed, of left and then of right
@@ -53,7 +53,7 @@ returns-2 c =
     let z = c .before .before in
     let b = z .before .before .before .before .before .before .before .before .before .before in
     let a = b .args in
-    let e = right-fails 128 (a .c) (a .data-type) (a .columns) (now (a .left)) (now (a .right)) (left-passes (z .before)) (b .pre .1) (z .sizes-at2 .ensures .lists) (c .before .lists-code2 .ensures) (c .if2 .taken) in
+    let e = right-fails (narrow .categoryLimit) (a .c) (a .data-type) (a .columns) (now (a .left)) (now (a .right)) (left-passes (z .before)) (b .pre .1) (z .sizes-at2 .ensures .lists) (c .before .lists-code2 .ensures) (c .if2 .taken) in
     (ap (λ (g : Result Nature). inWriting narrow g) (sym e), tt)
 
 returns-3 : tie.Need-returns-3
@@ -62,7 +62,7 @@ returns-3 c =
     let a = b .args in
     let f = left-passes (c .before .before .before .before) in
     let g = right-passes (c .before) in
-    let e = unequal-lists 128 (a .c) (a .data-type) (a .columns) (now (a .left)) (now (a .right)) f g (c .if3 .taken) in
+    let e = unequal-lists (narrow .categoryLimit) (a .c) (a .data-type) (a .columns) (now (a .left)) (now (a .right)) f g (c .if3 .taken) in
     (ap (λ (g : Result Nature). inWriting narrow g) (sym e), tt)
 
 returns-4 : tie.Need-returns-4
@@ -71,7 +71,7 @@ returns-4 c =
     let a = b .args in
     let f = left-passes (c .before .before .before .before .before) in
     let g = right-passes (c .before .before) in
-    let e = bool-pair 128 (a .c) (a .data-type) (a .columns) (now (a .left)) (now (a .right)) f g (c .before .if3 .left) (c .if4 .taken) in
+    let e = bool-pair (narrow .categoryLimit) (a .c) (a .data-type) (a .columns) (now (a .left)) (now (a .right)) f g (c .before .if3 .left) (c .if4 .taken) in
     (ap (λ (g : Result Nature). inWriting narrow g) (sym e), tt)
 
 returns-5 : tie.Need-returns-5
@@ -82,7 +82,7 @@ returns-5 c =
     let f = left-passes (h .before .before .before .before .before .before) in
     let g = right-passes (h .before .before .before) in
     let none = sym (h .has-rule .ensures) ∙ not-true (h .has-rule .result) (c .if5 .taken) in
-    let e = no-rule 128 (a .c) (a .data-type) (a .columns) (now (a .left)) (now (a .right)) f g (h .before .before .if3 .left) (is-whole f (h .before .if4 .left)) (b .pre .3) none in
+    let e = no-rule (narrow .categoryLimit) (a .c) (a .data-type) (a .columns) (now (a .left)) (now (a .right)) f g (h .before .before .if3 .left) (is-whole f (h .before .if4 .left)) (b .pre .3) none in
     (ap (λ (g : Result Nature). inWriting narrow g) (sym e), tt)
 
 lists-pair-requires : tie.Need-lists-pair-requires
@@ -106,7 +106,7 @@ returns-6 c =
     let f = left-passes (w .before .before .before .before .before) in
     let g = right-passes (w .before .before) in
     let has = sym (h .has-rule .ensures) ∙ not-false (h .has-rule .result) (d .before .before .before .if5 .left) in
-    let e = pair-ruled 128 (a .c) (a .data-type) (a .columns) (now (a .left)) (now (a .right)) f g (w .before .if3 .left) (is-whole f (w .if4 .left)) has in
+    let e = pair-ruled (narrow .categoryLimit) (a .c) (a .data-type) (a .columns) (now (a .left)) (now (a .right)) f g (w .before .if3 .left) (is-whole f (w .if4 .left)) has in
     (d .lists-pair .ensures .0 ∙ ap (λ (g : Result Nature). inWriting narrow g) (sym e), d .lists-pair .ensures .1)
 
 pub propagate-binary-categorical-nature-spec : {M : Type 1} → statement M

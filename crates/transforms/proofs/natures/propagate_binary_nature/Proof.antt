@@ -30,7 +30,7 @@ returns c =
     let b = c .before .before .before .before .before .before .before .before in
     let a = b .args in
     let left = now (a .left) in
-    let e = absent-left 128 (a .c) (a .data-type) (a .columns) (natureIn narrow left) (natureIn narrow (now (a .right))) (number-of left (b .pre .0) ∙ c .before .if1 .taken) in
+    let e = absent-left (narrow .categoryLimit) (a .c) (a .data-type) (a .columns) (natureIn narrow left) (natureIn narrow (now (a .right))) (number-of left (b .pre .0) ∙ c .before .if1 .taken) in
     (c .nothing-stated .ensures .0 (now (a .first)) (now (a .second)) ∙ ap (λ (g : Result Nature). inWriting narrow g) (sym e), c .nothing-stated .ensures .1)
 
 returns-2 : tie.Need-returns-2
@@ -38,7 +38,7 @@ returns-2 c =
     let b = c .before .before .before .before .before .before .before .before .before in
     let a = b .args in
     let right = now (a .right) in
-    let e = absent-right 128 (a .c) (a .data-type) (a .columns) (natureIn narrow (now (a .left))) (natureIn narrow right) (number-of right (b .pre .1) ∙ c .before .if2 .taken) in
+    let e = absent-right (narrow .categoryLimit) (a .c) (a .data-type) (a .columns) (natureIn narrow (now (a .left))) (natureIn narrow right) (number-of right (b .pre .1) ∙ c .before .if2 .taken) in
     (c .nothing-stated2 .ensures .0 (now (a .first)) (now (a .second)) ∙ ap (λ (g : Result Nature). inWriting narrow g) (sym e), c .nothing-stated2 .ensures .1)
 
 returns-3 : tie.Need-returns-3
@@ -51,7 +51,7 @@ returns-3 c =
     let q = number-of right (b .pre .1) in
     let x = ap isRangeNature p ∙ sym (c .before .before .before .before .is-range .ensures) ∙ c .before .before .before .if3 .taken in
     let y = ap isRangeNature q ∙ sym (c .before .before .is-range2 .ensures) ∙ c .before .if4 .taken in
-    let e = unequal-ranges 128 (a .c) (a .data-type) (a .columns) (natureIn narrow left) (natureIn narrow right) x y (λ same. c .if5 .taken (sym p ∙ same ∙ q)) in
+    let e = unequal-ranges (narrow .categoryLimit) (a .c) (a .data-type) (a .columns) (natureIn narrow left) (natureIn narrow right) x y (λ same. c .if5 .taken (sym p ∙ same ∙ q)) in
     (ap (λ (g : Result Nature). inWriting narrow g) (sym e), tt)
 
 range-pair-requires : tie.Need-range-pair-requires
@@ -75,7 +75,7 @@ returns-4 c =
     let d = c .before .before .before .before in
     let b = d .before .before .before .before .before .before .before .before .before .before .before .before .before .before .before .before in
     let a = b .args in
-    let e = both-ranges 128 (a .c) (a .data-type) (a .columns) (now (a .left)) (now (a .right)) (sym (d .before .before .before .before .before .before .before .is-range .ensures) ∙ d .before .before .before .before .before .before .if3 .taken) (d .before .before .before .if5 .left) in
+    let e = both-ranges (narrow .categoryLimit) (a .c) (a .data-type) (a .columns) (now (a .left)) (now (a .right)) (sym (d .before .before .before .before .before .before .before .is-range .ensures) ∙ d .before .before .before .before .before .before .if3 .taken) (d .before .before .before .if5 .left) in
     (d .range-pair .ensures .0 ∙ ap (λ (g : Result Nature). inWriting narrow g) (sym e), d .range-pair .ensures .1)
 
 returns-5 : tie.Need-returns-5
@@ -86,7 +86,7 @@ returns-5 c =
     let right = now (a .right) in
     let x = ap isRangeNature (number-of left (b .pre .0)) ∙ sym (c .before .before .before .before .is-range .ensures) ∙ c .before .before .before .if3 .taken in
     let y = ap isRangeNature (number-of right (b .pre .1)) ∙ sym (c .before .before .is-range2 .ensures) ∙ c .before .if4 .left in
-    let e = range-with-lists 128 (a .c) (a .data-type) (a .columns) (natureIn narrow left) (natureIn narrow right) x y in
+    let e = range-with-lists (narrow .categoryLimit) (a .c) (a .data-type) (a .columns) (natureIn narrow left) (natureIn narrow right) x y in
     (c .nothing-stated3 .ensures .0 (now (a .first)) (now (a .second)) ∙ ap (λ (g : Result Nature). inWriting narrow g) (sym e), c .nothing-stated3 .ensures .1)
 
 returns-6 : tie.Need-returns-6
@@ -97,7 +97,7 @@ returns-6 c =
     let right = now (a .right) in
     let x = ap isRangeNature (number-of left (b .pre .0)) ∙ sym (c .before .before .before .before .is-range .ensures) ∙ c .before .before .before .if3 .left in
     let y = ap isRangeNature (number-of right (b .pre .1)) ∙ sym (c .before .before .is-range3 .ensures) ∙ c .before .if6 .taken in
-    let e = lists-with-range 128 (a .c) (a .data-type) (a .columns) (natureIn narrow left) (natureIn narrow right) x y in
+    let e = lists-with-range (narrow .categoryLimit) (a .c) (a .data-type) (a .columns) (natureIn narrow left) (natureIn narrow right) x y in
     (c .nothing-stated4 .ensures .0 (now (a .first)) (now (a .second)) ∙ ap (λ (g : Result Nature). inWriting narrow g) (sym e), c .nothing-stated4 .ensures .1)
 
 -- neither operand is absent or a range
@@ -134,7 +134,7 @@ returns-7 c =
     let p = number-of left (l .read) in
     let q = number-of right (r .read) in
     let e =
-    both-lists 128 (a .c) (a .data-type) (a .columns) (natureIn narrow left) (natureIn narrow right) (λ z. w .before .before .before .before .before .if1 .left (sym p ∙ z)) (ap isRangeNature p ∙ l .no-range)
+    both-lists (narrow .categoryLimit) (a .c) (a .data-type) (a .columns) (natureIn narrow left) (natureIn narrow right) (λ z. w .before .before .before .before .before .if1 .left (sym p ∙ z)) (ap isRangeNature p ∙ l .no-range)
     (λ z. w .before .before .before .before .if2 .left (sym q ∙ z))
     (ap isRangeNature q ∙ r .no-range) in
     (d .propagate-binary-categorical-nature .ensures .0 ∙ ap (λ (g : Result Nature). inWriting narrow g) (sym e), d .propagate-binary-categorical-nature .ensures .1)

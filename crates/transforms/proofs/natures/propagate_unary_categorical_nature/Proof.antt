@@ -27,7 +27,7 @@ returns c =
     let z = c .before .before in
     let b = z .before .before .before .before .before in
     let a = b .args in
-    let e = alone-fails 128 (a .c) (a .data-type) (a .columns) (b .pre .0) (z .sizes-at .ensures .lists) (c .before .lists-code .ensures) (c .if1 .taken) in
+    let e = alone-fails (narrow .categoryLimit) (a .c) (a .data-type) (a .columns) (b .pre .0) (z .sizes-at .ensures .lists) (c .before .lists-code .ensures) (c .if1 .taken) in
     (ap (λ (g : Result Nature). inWriting narrow g) (sym e), tt)
 
 -- 19 and 20 have passed
@@ -38,7 +38,7 @@ passes c =
 returns-2 : tie.Need-returns-2
 returns-2 c =
     let a = c .before .before .before .before .before .before .before .before .args in
-    let e = bool-alone 128 (a .c) (a .data-type) (a .columns) (passes (c .before)) (c .if2 .taken) in
+    let e = bool-alone (narrow .categoryLimit) (a .c) (a .data-type) (a .columns) (passes (c .before)) (c .if2 .taken) in
     (ap (λ (g : Result Nature). inWriting narrow g) (sym e), tt)
 
 lists-alone-requires : tie.Need-lists-alone-requires
@@ -56,7 +56,7 @@ returns-3 c =
     let b = w .before .before .before .before .before .before .before .before in
     let a = b .args in
     let p = passes (w .before) in
-    let e = alone-ruled 128 (a .c) (a .data-type) (a .columns) p (is-whole p (w .if2 .left)) (b .pre .2) in
+    let e = alone-ruled (narrow .categoryLimit) (a .c) (a .data-type) (a .columns) p (is-whole p (w .if2 .left)) (b .pre .2) in
     (d .lists-alone .ensures .0 ∙ ap (λ (g : Result Nature). inWriting narrow g) (sym e), d .lists-alone .ensures .1)
 
 pub propagate-unary-categorical-nature-spec : {M : Type 1} → statement M

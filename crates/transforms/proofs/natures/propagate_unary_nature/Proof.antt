@@ -25,7 +25,7 @@ returns c =
     let b = c .before .before .before .before .before .before in
     let a = b .args in
     let s = now (a .s) in
-    let e = alone-absent 128 (a .c) (a .data-type) (a .columns) (natureIn narrow s) (number-of s (b .pre .0) ∙ c .before .if1 .taken) in
+    let e = alone-absent (narrow .categoryLimit) (a .c) (a .data-type) (a .columns) (natureIn narrow s) (number-of s (b .pre .0) ∙ c .before .if1 .taken) in
     (c .nothing-stated .ensures .0 (now (a .first)) (now (a .second)) ∙ ap (λ (g : Result Nature). inWriting narrow g) (sym e), c .nothing-stated .ensures .1)
 
 range-pair-requires : tie.Need-range-pair-requires
@@ -43,7 +43,7 @@ returns-2 c =
     let d = c .before .before .before .before in
     let b = d .before .before .before .before .before .before .before .before .before .before in
     let a = b .args in
-    let e = alone-range 128 (a .c) (a .data-type) (a .columns) (b .pre .2) (now (a .s)) (sym (d .before .before .before .before .is-range .ensures) ∙ d .before .before .before .if2 .taken) in
+    let e = alone-range (narrow .categoryLimit) (a .c) (a .data-type) (a .columns) (b .pre .2) (now (a .s)) (sym (d .before .before .before .before .is-range .ensures) ∙ d .before .before .before .if2 .taken) in
     (d .range-pair .ensures .0 ∙ ap (λ (g : Result Nature). inWriting narrow g) (sym e), d .range-pair .ensures .1)
 
 -- neither absent nor a range
@@ -68,7 +68,7 @@ returns-3 c =
     let s = now (a .s) in
     let l = listing w in
     let p = number-of s (l .read) in
-    let e = alone-lists 128 (a .c) (a .data-type) (a .columns) (natureIn narrow s) (λ z. w .before .before .if1 .left (sym p ∙ z)) (ap isRangeNature p ∙ l .no-range) in
+    let e = alone-lists (narrow .categoryLimit) (a .c) (a .data-type) (a .columns) (natureIn narrow s) (λ z. w .before .before .if1 .left (sym p ∙ z)) (ap isRangeNature p ∙ l .no-range) in
     (d .propagate-unary-categorical-nature .ensures .0 ∙ ap (λ (g : Result Nature). inWriting narrow g) (sym e), d .propagate-unary-categorical-nature .ensures .1)
 
 pub propagate-unary-nature-spec : {M : Type 1} → statement M
