@@ -6,13 +6,11 @@ use Prim.Native.Nat.{ℕ, zero, suc, _+_, _-_, _<_, _≤_}
 use native.Mathlib.Nat.{add-zero}
 use native.Mathlib.Numerals.{add-one}
 use native.Mathlib.Omega.{arith}
-use lib.IntN.{ℤ}
 use lib.Seq.{drop-cons}
 use lib.ListN.{length, drop, getD, drop-of-length-le, length-map, length-replicate}
 use lib.Dec.{eqb}
 use borrow.Author.Tests.{eqb-true, ne-eqb}
 use Rattle.numbers.specs.Result.{Result, ok, refused, andThen}
-use Rattle.numbers.specs.Kind.{eqZ}
 use Rattle.utilities.specs.Lists.{firsts, repeated, standardized}
 use Rattle.utilities.specs.Columns.{each, eachPair}
 use Rattle.utilities.proofs.Repeated.{standardized-one, standardized-at}
@@ -140,52 +138,52 @@ module _ {X Y : Type 0} (d : X) (f : ℕ → Result Y) where
 
 -- ---- lists made ready for the columns
 
-module _ (columns : ℕ) where
-  pub standardized-length : (ls : List (List ℤ)) → length (standardized eqZ columns ls) ≡ spreadOf columns (length ls)
+module _ {X : Type 0} (same : X → X → Bool) (columns : ℕ) where
+  pub standardized-length : (ls : List (List X)) → length (standardized same columns ls) ≡ spreadOf columns (length ls)
   unfolding standardized repeated
   standardized-length [] = refl
-  standardized-length (l ∷ []) = length-replicate columns (firsts eqZ l)
+  standardized-length (l ∷ []) = length-replicate columns (firsts same l)
   standardized-length (l ∷ m ∷ ls) =
-      rw (ne-eqb (suc (suc (length ls))) 1 (λ e. omega arith)) (ap (λ (n : ℕ). suc (suc n)) (length-map ls (firsts eqZ)))
+      rw (ne-eqb (suc (suc (length ls))) 1 (λ e. omega arith)) (ap (λ (n : ℕ). suc (suc n)) (length-map ls (firsts same)))
 
-  pub standardized-pick : (ls : List (List ℤ)) (j : ℕ) → j < spreadOf columns (length ls) → getD (standardized eqZ columns ls) j [] ≡ firsts eqZ (pick ls j)
-  standardized-pick [] j h = standardized-at eqZ columns [] j (λ (e : 0 ≡ 1). omega arith)
-  standardized-pick (l ∷ []) j h = standardized-one eqZ columns l j [] h
-  standardized-pick (l ∷ m ∷ ls) j h = standardized-at eqZ columns (l ∷ m ∷ ls) j (λ e. omega arith) ∙ ap (firsts eqZ) (sym (pick-own (l ∷ m ∷ ls) j (λ e. omega arith)))
+  pub standardized-pick : (ls : List (List X)) (j : ℕ) → j < spreadOf columns (length ls) → getD (standardized same columns ls) j [] ≡ firsts same (pick ls j)
+  standardized-pick [] j h = standardized-at same columns [] j (λ (e : 0 ≡ 1). omega arith)
+  standardized-pick (l ∷ []) j h = standardized-one same columns l j [] h
+  standardized-pick (l ∷ m ∷ ls) j h = standardized-at same columns (l ∷ m ∷ ls) j (λ e. omega arith) ∙ ap (firsts same) (sym (pick-own (l ∷ m ∷ ls) j (λ e. omega arith)))
 
-module _ (rule : ℤ → ℤ → Result ℤ) (columns : ℕ) (ls ms : List (List ℤ)) (n : ℕ) where
-  pub combined-is : n ≡ lesserOf (spreadOf columns (length ls)) (spreadOf columns (length ms)) → eachFrom (columnOf false rule ls ms) n 0 ≡ combined rule columns ls ms
+module _ {X : Type 0} (same : X → X → Bool) (rule : X → X → Result X) (columns : ℕ) (ls ms : List (List X)) (n : ℕ) where
+  pub combined-is : n ≡ lesserOf (spreadOf columns (length ls)) (spreadOf columns (length ms)) → eachFrom (columnOf false same rule ls ms) n 0 ≡ combined same rule columns ls ms
   unfolding combined columnOf
   combined-is e =
-      let us = standardized eqZ columns ls in
-      let bs = standardized eqZ columns ms in
-      let size : n ≡ lesserOf (length us) (length bs) = e ∙ sym (ap₂ lesserOf (standardized-length columns ls) (standardized-length columns ms)) in
+      let us = standardized same columns ls in
+      let bs = standardized same columns ms in
+      let size : n ≡ lesserOf (length us) (length bs) = e ∙ sym (ap₂ lesserOf (standardized-length same columns ls) (standardized-length same columns ms)) in
       let below = lesser-below (length us) (length bs) in
-      let l = standardized-length columns ls in
-      let m = standardized-length columns ms in
-      ap (λ (k : ℕ). eachFrom (columnOf false rule ls ms) k 0) size
-      ∙ from-pairs [] (columnOf false rule ls ms) (product rule) us bs 0
+      let l = standardized-length same columns ls in
+      let m = standardized-length same columns ms in
+      ap (λ (k : ℕ). eachFrom (columnOf false same rule ls ms) k 0) size
+      ∙ from-pairs [] (columnOf false same rule ls ms) (product same rule) us bs 0
       (λ k h.
       let a : k < spreadOf columns (length ls) = omega (arith, below .0) in
       let b : k < spreadOf columns (length ms) = omega (arith, below .1) in
-      ap (columnOf false rule ls ms) (omega arith)
-      ∙ sym (ap₂ (product rule) (standardized-pick columns ls k a) (standardized-pick columns ms k b)))
+      ap (columnOf false same rule ls ms) (omega arith)
+      ∙ sym (ap₂ (product same rule) (standardized-pick same columns ls k a) (standardized-pick same columns ms k b)))
 
-  pub mapped-is : n ≡ spreadOf columns (length ls) → eachFrom (columnOf true rule ls ms) n 0 ≡ mapped rule columns ls
+  pub mapped-is : n ≡ spreadOf columns (length ls) → eachFrom (columnOf true same rule ls ms) n 0 ≡ mapped same rule columns ls
   unfolding mapped columnOf
   mapped-is e =
-      let us = standardized eqZ columns ls in
-      let l = standardized-length columns ls in
-      ap (λ (k : ℕ). eachFrom (columnOf true rule ls ms) k 0) (e ∙ sym l)
-      ∙ from-each [] (columnOf true rule ls ms) (each (λ a. rule a a)) us 0
+      let us = standardized same columns ls in
+      let l = standardized-length same columns ls in
+      ap (λ (k : ℕ). eachFrom (columnOf true same rule ls ms) k 0) (e ∙ sym l)
+      ∙ from-each [] (columnOf true same rule ls ms) (each (λ a. rule a a)) us 0
       (λ k h.
       let a : k < spreadOf columns (length ls) = omega arith in
-      ap (columnOf true rule ls ms) (omega arith) ∙ sym (ap (each (λ a. rule a a)) (standardized-pick columns ls k a)))
+      ap (columnOf true same rule ls ms) (omega arith) ∙ sym (ap (each (λ a. rule a a)) (standardized-pick same columns ls k a)))
 
 -- where each operand has one list, every column is the first
-pub column-one : (alone : Bool) (rule : ℤ → ℤ → Result ℤ) (ls ms : List (List ℤ)) → length ls ≡ 1 → length ms ≡ 1 → (j : ℕ)
-    → columnOf alone rule ls ms 0 ≡ columnOf alone rule ls ms j
+pub column-one : {X : Type 0} (alone : Bool) (same : X → X → Bool) (rule : X → X → Result X) (ls ms : List (List X)) → length ls ≡ 1 → length ms ≡ 1 → (j : ℕ)
+    → columnOf alone same rule ls ms 0 ≡ columnOf alone same rule ls ms j
 unfolding columnOf
-column-one true rule ls ms a b j = ap (λ (l : List ℤ). each (λ a. rule a a) (firsts eqZ l)) (pick-only ls 0 a ∙ sym (pick-only ls j a))
-column-one false rule ls ms a b j =
-    ap₂ (λ (l m : List ℤ). product rule (firsts eqZ l) (firsts eqZ m)) (pick-only ls 0 a ∙ sym (pick-only ls j a)) (pick-only ms 0 b ∙ sym (pick-only ms j b))
+column-one {X} true same rule ls ms a b j = ap (λ (l : List X). each (λ a. rule a a) (firsts same l)) (pick-only ls 0 a ∙ sym (pick-only ls j a))
+column-one {X} false same rule ls ms a b j =
+    ap₂ (λ (l m : List X). product same rule (firsts same l) (firsts same m)) (pick-only ls 0 a ∙ sym (pick-only ls j a)) (pick-only ms 0 b ∙ sym (pick-only ms j b))

@@ -86,7 +86,7 @@ unfolding valuesOf
 values-append ls l =
     joined-append listBytes ls (l ∷ []) ∙ ap (λ (t : List ℕ). joined listBytes ls ++ t) (joined-one listBytes l)
 
-total-append : (ls : List (List ℤ)) (l : List ℤ) → total (ls ++ (l ∷ [])) ≡ total ls + length l
+total-append {ℓ} : {X : Type ℓ} (ls : List (List X)) (l : List X) → total (ls ++ (l ∷ [])) ≡ total ls + length l
 unfolding total
 total-append [] l = omega arith
 total-append (m ∷ ls) l = omega (arith, total-append ls l)

@@ -102,7 +102,7 @@ module _ {n : ℕ} {out₀ out rest whole : List ℤ} (a : Taking n out₀ out r
 
 -- ---- the list of a column
 
-module _ (ls : List (List ℤ)) (j : ℕ) where
+module _ {ℓ} {X : Type ℓ} (ls : List (List X)) (j : ℕ) where
   pub pick-only : length ls ≡ 1 → pick ls j ≡ getD ls 0 []
   pick-only e = rw (eq-eqb (length ls) 1 e)
 

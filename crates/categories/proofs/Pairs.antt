@@ -9,106 +9,107 @@ use mathlib.Core.List.{List, [], _∷_, _++_}
 use Prim.Native.Nat.{ℕ, _+_, _<_, _≤_}
 use native.Mathlib.Numerals.{add-one}
 use native.Mathlib.Omega.{arith}
-use lib.IntN.{ℤ, pos}
+use lib.IntN.{ℤ}
 use lib.ListN.{length, take, drop, getD, length-append, drop-of-length-le}
 use lib.Seq.{drop-cons, length-take-le}
 use Rattle.numbers.specs.Result.{Result, ok, refused, andThen}
 use Rattle.numbers.specs.Kind.{eqZ}
 use Rattle.utilities.specs.Lists.{has, noted, firstsFrom, firsts}
+use Rattle.utilities.specs.Columns.{each}
 use Rattle.utilities.specs.Noted.{Begins, Lacks}
 use Rattle.utilities.proofs.Firsts.{noted-new, noted-keeps, firstsFrom-append}
 use Rattle.utilities.proofs.Begins.{begins-room}
-use Rattle.categories.specs.Categories.{row, pairs, product}
+use Rattle.categories.specs.Categories.{pairs, product}
 use Rattle.categories.specs.Answers.{Produces}
 use Rattle.categories.specs.declared.Product.the-variants as P
 
-module _ (rule : ℤ → ℤ → Result ℤ) where
-  unfoldable pub rowFrom : List ℤ → ℤ → List ℤ → Result (List ℤ)
+module _ {X : Type 0} (same : X → X → Bool) (rule : X → X → Result X) where
+  unfoldable pub rowFrom : List X → X → List X → Result (List X)
   rowFrom seen a [] = ok seen
-  rowFrom seen a (b ∷ bs) = andThen (rule a b) (λ c. rowFrom (noted eqZ seen c) a bs)
+  rowFrom seen a (b ∷ bs) = andThen (rule a b) (λ c. rowFrom (noted same seen c) a bs)
 
-  unfoldable pub pairsFrom : List ℤ → List ℤ → List ℤ → Result (List ℤ)
+  unfoldable pub pairsFrom : List X → List X → List X → Result (List X)
   pairsFrom seen [] bs = ok seen
   pairsFrom seen (a ∷ us) bs = andThen (rowFrom seen a bs) (λ d. pairsFrom d us bs)
 
-  row-is : (seen : List ℤ) (a : ℤ) (bs : List ℤ) → rowFrom seen a bs ≡ andThen (row rule a bs) (λ cs. ok (firstsFrom eqZ seen cs))
-  unfolding rowFrom row firstsFrom
+  row-is : (seen : List X) (a : X) (bs : List X) → rowFrom seen a bs ≡ andThen (each (rule a) bs) (λ cs. ok (firstsFrom same seen cs))
+  unfolding rowFrom each firstsFrom
   row-is seen a [] = refl
-  row-is seen a (b ∷ bs) = go (rule a b) (λ c. row-is (noted eqZ seen c) a bs)
+  row-is seen a (b ∷ bs) = go (rule a b) (λ c. row-is (noted same seen c) a bs)
     where
-      after : (c : ℤ) (r : Result (List ℤ))
-          → andThen r (λ cs. ok (firstsFrom eqZ (noted eqZ seen c) cs)) ≡ andThen (andThen r (λ cs. ok (c ∷ cs))) (λ cs. ok (firstsFrom eqZ seen cs))
+      after : (c : X) (r : Result (List X))
+          → andThen r (λ cs. ok (firstsFrom same (noted same seen c) cs)) ≡ andThen (andThen r (λ cs. ok (c ∷ cs))) (λ cs. ok (firstsFrom same seen cs))
       after c (ok cs) = refl
       after c (refused k) = refl
 
-      go : (g : Result ℤ) → ((c : ℤ) → rowFrom (noted eqZ seen c) a bs ≡ andThen (row rule a bs) (λ cs. ok (firstsFrom eqZ (noted eqZ seen c) cs)))
-          → andThen g (λ c. rowFrom (noted eqZ seen c) a bs)
-          ≡ andThen (andThen g (λ c. andThen (row rule a bs) (λ cs. ok (c ∷ cs)))) (λ cs. ok (firstsFrom eqZ seen cs))
-      go (ok c) h = h c ∙ after c (row rule a bs)
+      go : (g : Result X) → ((c : X) → rowFrom (noted same seen c) a bs ≡ andThen (each (rule a) bs) (λ cs. ok (firstsFrom same (noted same seen c) cs)))
+          → andThen g (λ c. rowFrom (noted same seen c) a bs)
+          ≡ andThen (andThen g (λ c. andThen (each (rule a) bs) (λ cs. ok (c ∷ cs)))) (λ cs. ok (firstsFrom same seen cs))
+      go (ok c) h = h c ∙ after c (each (rule a) bs)
       go (refused k) h = refl
 
-  pairs-is : (seen us bs : List ℤ) → pairsFrom seen us bs ≡ andThen (pairs rule us bs) (λ cs. ok (firstsFrom eqZ seen cs))
+  pairs-is : (seen us bs : List X) → pairsFrom seen us bs ≡ andThen (pairs rule us bs) (λ cs. ok (firstsFrom same seen cs))
   unfolding pairsFrom pairs firstsFrom
   pairs-is seen [] bs = refl
   pairs-is seen (a ∷ us) bs =
-      ap (λ (g : Result (List ℤ)). andThen g (λ d. pairsFrom d us bs)) (row-is seen a bs) ∙ go (row rule a bs) (λ d. pairs-is d us bs)
+      ap (λ (g : Result (List X)). andThen g (λ d. pairsFrom d us bs)) (row-is seen a bs) ∙ go (each (rule a) bs) (λ d. pairs-is d us bs)
     where
-      after : (cs : List ℤ) (r : Result (List ℤ))
-          → andThen r (λ ds. ok (firstsFrom eqZ (firstsFrom eqZ seen cs) ds)) ≡ andThen (andThen r (λ ds. ok (cs ++ ds))) (λ es. ok (firstsFrom eqZ seen es))
-      after cs (ok ds) = ap ok (sym (firstsFrom-append eqZ seen cs ds))
+      after : (cs : List X) (r : Result (List X))
+          → andThen r (λ ds. ok (firstsFrom same (firstsFrom same seen cs) ds)) ≡ andThen (andThen r (λ ds. ok (cs ++ ds))) (λ es. ok (firstsFrom same seen es))
+      after cs (ok ds) = ap ok (sym (firstsFrom-append same seen cs ds))
       after cs (refused k) = refl
 
-      go : (g : Result (List ℤ)) → ((d : List ℤ) → pairsFrom d us bs ≡ andThen (pairs rule us bs) (λ ds. ok (firstsFrom eqZ d ds)))
-          → andThen (andThen g (λ cs. ok (firstsFrom eqZ seen cs))) (λ d. pairsFrom d us bs)
-          ≡ andThen (andThen g (λ cs. andThen (pairs rule us bs) (λ ds. ok (cs ++ ds)))) (λ es. ok (firstsFrom eqZ seen es))
-      go (ok cs) h = h (firstsFrom eqZ seen cs) ∙ after cs (pairs rule us bs)
+      go : (g : Result (List X)) → ((d : List X) → pairsFrom d us bs ≡ andThen (pairs rule us bs) (λ ds. ok (firstsFrom same d ds)))
+          → andThen (andThen g (λ cs. ok (firstsFrom same seen cs))) (λ d. pairsFrom d us bs)
+          ≡ andThen (andThen g (λ cs. andThen (pairs rule us bs) (λ ds. ok (cs ++ ds)))) (λ es. ok (firstsFrom same seen es))
+      go (ok cs) h = h (firstsFrom same seen cs) ∙ after cs (pairs rule us bs)
       go (refused k) h = refl
 
-  pub product-is : (us bs : List ℤ) → product rule us bs ≡ pairsFrom [] us bs
+  pub product-is : (us bs : List X) → product same rule us bs ≡ pairsFrom [] us bs
   unfolding product firsts
   product-is us bs = sym (pairs-is [] us bs)
 
   -- ---- one step
 
-  module _ (us bs : List ℤ) (i : ℕ) (seen : List ℤ) where
-    pub row-start : {a : ℤ} → a ≡ getD us i (pos 0) → i < length us → pairsFrom seen (drop i us) bs ≡ andThen (rowFrom seen a bs) (λ d. pairsFrom d (drop (i + 1) us) bs)
+  module _ (us bs : List X) (i : ℕ) (seen : List X) where
+    pub row-start : (z : X) {a : X} → a ≡ getD us i z → i < length us → pairsFrom seen (drop i us) bs ≡ andThen (rowFrom seen a bs) (λ d. pairsFrom d (drop (i + 1) us) bs)
     unfolding pairsFrom
-    row-start e h = rw (e, drop-cons us i (pos 0) h, add-one i)
+    row-start z e h = rw (e, drop-cons us i z h, add-one i)
 
     pub all-end : length us ≤ i → pairsFrom seen (drop i us) bs ≡ ok seen
     unfolding pairsFrom
     all-end h = rw (drop-of-length-le us h)
 
-  module _ (a : ℤ) (bs : List ℤ) (j : ℕ) (seen : List ℤ) where
+  module _ (a : X) (bs : List X) (j : ℕ) (seen : List X) where
     row-end : length bs ≤ j → rowFrom seen a (drop j bs) ≡ ok seen
     unfolding rowFrom
     row-end h = rw (drop-of-length-le bs h)
 
-    row-ok : {v : ℤ} → j < length bs → rule a (getD bs j (pos 0)) ≡ ok v → rowFrom seen a (drop j bs) ≡ rowFrom (noted eqZ seen v) a (drop (j + 1) bs)
+    row-ok : (z : X) {v : X} → j < length bs → rule a (getD bs j z) ≡ ok v → rowFrom seen a (drop j bs) ≡ rowFrom (noted same seen v) a (drop (j + 1) bs)
     unfolding rowFrom
-    row-ok h e = rw (drop-cons bs j (pos 0) h, add-one j, e)
+    row-ok z h e = rw (drop-cons bs j z h, add-one j, e)
 
-    row-bad : {k : ℕ} → j < length bs → rule a (getD bs j (pos 0)) ≡ refused k → rowFrom seen a (drop j bs) ≡ refused k
+    row-bad : (z : X) {k : ℕ} → j < length bs → rule a (getD bs j z) ≡ refused k → rowFrom seen a (drop j bs) ≡ refused k
     unfolding rowFrom
-    row-bad h e = rw (drop-cons bs j (pos 0) h, e)
+    row-bad z h e = rw (drop-cons bs j z h, e)
 
   -- ---- the rest of the product, in a row and between rows
 
-  abbrev pub inRow : ℤ → List ℤ → List ℤ → ℕ → ℕ → List ℤ → Result (List ℤ)
+  abbrev pub inRow : X → List X → List X → ℕ → ℕ → List X → Result (List X)
   inRow a us bs i j seen = andThen (rowFrom seen a (drop j bs)) (λ d. pairsFrom d (drop i us) bs)
 
-  abbrev pub inPairs : List ℤ → List ℤ → ℕ → List ℤ → Result (List ℤ)
+  abbrev pub inPairs : List X → List X → ℕ → List X → Result (List X)
   inPairs us bs i seen = pairsFrom seen (drop i us) bs
 
-  module _ (a : ℤ) (us bs : List ℤ) (i j : ℕ) (seen : List ℤ) where
-    pub next-pair : {v : ℤ} → j < length bs → rule a (getD bs j (pos 0)) ≡ ok v → inRow a us bs i j seen ≡ inRow a us bs i (j + 1) (noted eqZ seen v)
-    next-pair h e = ap (λ (g : Result (List ℤ)). andThen g (λ d. pairsFrom d (drop i us) bs)) (row-ok a bs j seen h e)
+  module _ (a : X) (us bs : List X) (i j : ℕ) (seen : List X) where
+    pub next-pair : (z : X) {v : X} → j < length bs → rule a (getD bs j z) ≡ ok v → inRow a us bs i j seen ≡ inRow a us bs i (j + 1) (noted same seen v)
+    next-pair z h e = ap (λ (g : Result (List X)). andThen g (λ d. pairsFrom d (drop i us) bs)) (row-ok a bs j seen z h e)
 
-    pub bad-pair : {k : ℕ} → j < length bs → rule a (getD bs j (pos 0)) ≡ refused k → inRow a us bs i j seen ≡ refused k
-    bad-pair h e = ap (λ (g : Result (List ℤ)). andThen g (λ d. pairsFrom d (drop i us) bs)) (row-bad a bs j seen h e)
+    pub bad-pair : (z : X) {k : ℕ} → j < length bs → rule a (getD bs j z) ≡ refused k → inRow a us bs i j seen ≡ refused k
+    bad-pair z h e = ap (λ (g : Result (List X)). andThen g (λ d. pairsFrom d (drop i us) bs)) (row-bad a bs j seen z h e)
 
     pub next-row : length bs ≤ j → inRow a us bs i j seen ≡ inPairs us bs i seen
-    next-row h = ap (λ (g : Result (List ℤ)). andThen g (λ d. pairsFrom d (drop i us) bs)) (row-end a bs j seen h)
+    next-row h = ap (λ (g : Result (List X)). andThen g (λ d. pairsFrom d (drop i us) bs)) (row-end a bs j seen h)
 
 -- ---- the store
 

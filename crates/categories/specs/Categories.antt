@@ -1,5 +1,5 @@
--- 01, "Categories": lists mapped or combined by a rule on whole numbers.
-use mathlib.Core.Bool.{cond}
+-- 01, "Categories": lists mapped or combined by a rule.
+use mathlib.Core.Bool.{Bool, cond}
 use mathlib.Core.List.{List, [], _∷_, _++_}
 use mathlib.Core.Option.{Option, none, some}
 use Prim.Native.Nat.{ℕ, _-_, _%_, suc}
@@ -7,7 +7,7 @@ use lib.IntN.{ℤ, pos, negsuc, natAbs, pow}
 use lib.Dec.{eqb, ltb}
 use Rattle.numbers.specs.Result.{Result, ok, refused, andThen}
 use Rattle.numbers.specs.Checked.{inRange, checkedOf}
-use Rattle.numbers.specs.Kind.{whole, fitting, eqZ}
+use Rattle.numbers.specs.Kind.{whole, fitting}
 use Rattle.utilities.specs.Lists.{firsts, standardized}
 use Rattle.base.specs.Form.{intType}
 use Rattle.base.specs.Sheet.{Nature, wholeLists}
@@ -46,30 +46,28 @@ categoryRule C.Log type = none
 categoryRule C.Power type = cond (eqb type intType) (some powerWhole) none
 categoryRule C.Negative type = some (λ a b. whole .neg a)
 
-module _ (rule : ℤ → ℤ → Result ℤ) where
-  -- 01: "Pairs run left outer, right inner"; "The first pair that fails ends the whole product"
-  unfoldable pub row : ℤ → List ℤ → Result (List ℤ)
-  row a [] = ok []
-  row a (b ∷ bs) = andThen (rule a b) (λ c. andThen (row a bs) (λ cs. ok (c ∷ cs)))
+-- ---- lists of any elements, by their rule and their equality: of whole numbers, by `categoryRule` and `eqZ`
 
-  unfoldable pub pairs : List ℤ → List ℤ → Result (List ℤ)
-  pairs [] bs = ok []
-  pairs (a ∷ us) bs = andThen (row a bs) (λ cs. andThen (pairs us bs) (λ ds. ok (cs ++ ds)))
+-- 01: "Pairs run left outer, right inner"; "The first pair that fails ends the whole product"
+unfoldable pub pairs : {X : Type 0} → (X → X → Result X) → List X → List X → Result (List X)
+pairs rule [] bs = ok []
+pairs rule (a ∷ us) bs = andThen (each (rule a) bs) (λ cs. andThen (pairs rule us bs) (λ ds. ok (cs ++ ds)))
 
+module _ {X : Type 0} (same : X → X → Bool) (rule : X → X → Result X) where
   -- 01: "first occurrences stay"
-  unfoldable pub product : List ℤ → List ℤ → Result (List ℤ)
-  product us bs = andThen (pairs us bs) (λ cs. ok (firsts eqZ cs))
+  unfoldable pub product : List X → List X → Result (List X)
+  product us bs = andThen (pairs rule us bs) (λ cs. ok (firsts same cs))
 
   -- two operands' lists, over the output columns
-  unfoldable pub combined : ℕ → List (List ℤ) → List (List ℤ) → Result (List (List ℤ))
-  combined columns ls ms = eachPair product (standardized eqZ columns ls) (standardized eqZ columns ms)
+  unfoldable pub combined : ℕ → List (List X) → List (List X) → Result (List (List X))
+  combined columns ls ms = eachPair product (standardized same columns ls) (standardized same columns ms)
 
   -- 01: "Abs and Negative map whole numbers and keep repeats" (those of the result: the operand's go first, as in the Rust)
-  unfoldable pub mapped : ℕ → List (List ℤ) → Result (List (List ℤ))
-  mapped columns ls = each (each (λ a. rule a a)) (standardized eqZ columns ls)
+  unfoldable pub mapped : ℕ → List (List X) → Result (List (List X))
+  mapped columns ls = each (each (λ a. rule a a)) (standardized same columns ls)
 
 -- 26: "The result holds over 128 categories, counted as they would be written"; tested only if no pair fails
-unfoldable pub counted : ℕ → List (List ℤ) → Result (List (List ℤ))
+unfoldable pub counted : {X : Type 0} → ℕ → List (List X) → Result (List (List X))
 counted limit ls = cond (ltb limit (total ls)) (refused 26) (ok ls)
 
 -- the nature of lists that keep to the limit

@@ -3,11 +3,9 @@ use mathlib.Core.Path.{_≡_}
 use mathlib.Core.Bool.{Bool, true, false, cond}
 use mathlib.Core.List.{List, [], _∷_}
 use Prim.Native.Nat.{ℕ, zero, suc, _+_, _<_}
-use lib.IntN.{ℤ}
 use lib.ListN.{length, getD}
 use lib.Dec.{eqb}
 use Rattle.numbers.specs.Result.{Result, ok, andThen}
-use Rattle.numbers.specs.Kind.{eqZ}
 use Rattle.utilities.specs.Lists.{firsts}
 use Rattle.utilities.specs.Columns.{each}
 use Rattle.base.specs.Form.{Form, byteAt, natureAt, wholeListsNature, listCount}
@@ -30,7 +28,7 @@ eachFrom f zero i = ok []
 eachFrom f (suc n) i = andThen (f i) (λ z. andThen (eachFrom f n (i + 1)) (λ zs. ok (z ∷ zs)))
 
 -- 01: "One list repeats per output column": the list of column j ..
-abbrev pub pick : List (List ℤ) → ℕ → List ℤ
+abbrev pub pick {ℓ} : {X : Type ℓ} → List (List X) → ℕ → List X
 pick ls j = getD ls (cond (eqb (length ls) 1) 0 j) []
 
 -- .. and how many columns n lists have
@@ -44,6 +42,6 @@ lesserOf (suc a) zero = 0
 lesserOf (suc a) (suc b) = suc (lesserOf a b)
 
 -- column j of left's lists alone, or of both operands' lists
-unfoldable pub columnOf : Bool → (ℤ → ℤ → Result ℤ) → List (List ℤ) → List (List ℤ) → ℕ → Result (List ℤ)
-columnOf true rule ls ms j = each (λ a. rule a a) (firsts eqZ (pick ls j))
-columnOf false rule ls ms j = product rule (firsts eqZ (pick ls j)) (firsts eqZ (pick ms j))
+unfoldable pub columnOf : {X : Type 0} → Bool → (X → X → Bool) → (X → X → Result X) → List (List X) → List (List X) → ℕ → Result (List X)
+columnOf true same rule ls ms j = each (λ a. rule a a) (firsts same (pick ls j))
+columnOf false same rule ls ms j = product same rule (firsts same (pick ls j)) (firsts same (pick ms j))

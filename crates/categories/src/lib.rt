@@ -119,7 +119,7 @@ fn product_into(
     store: &mut [i64],
 ) -> Product
     requires { ⌜ (l ≤ length (now left)) × (r ≤ length (now right)) ⌝ }
-    ensures { λ p. ⌜ Produces p (now (store .exit)) (product (ruleOf c) (take l (now (left .entry))) (take r (now (right .entry)))) ⌝ }
+    ensures { λ p. ⌜ Produces p (now (store .exit)) (product eqZ (ruleOf c) (take l (now (left .entry))) (take r (now (right .entry)))) ⌝ }
 {
     let mut hints = [0u8; utilities::HINTS];
     let mut code: u32 = 0;
@@ -184,7 +184,7 @@ fn column(
     requires { ⌜ Listed narrow (now left) × Reaches narrow (now left) j ⌝ }
     requires { ⌜ Listed narrow (now right) × Reaches narrow (now right) j ⌝ }
     requires { ⌜ narrow .categoryLimit ≤ length (now store) ⌝ }
-    ensures { λ p. ⌜ Produces p (now (store .exit)) (columnOf alone (ruleOf c) (lists narrow (now (left .entry)) asWhole) (lists narrow (now (right .entry)) asWhole) j) ⌝ }
+    ensures { λ p. ⌜ Produces p (now (store .exit)) (columnOf alone eqZ (ruleOf c) (lists narrow (now (left .entry)) asWhole) (lists narrow (now (right .entry)) asWhole) j) ⌝ }
 {
     let mut us = [0i64; form::CATEGORY_LIMIT];
     let l = column_list(left, j, &mut us);
@@ -275,7 +275,7 @@ fn columns_into(
     requires { ⌜ Listed narrow (now left) × ((listCount narrow (now left) ≡ 1 → ⊥) → n ≤ listCount narrow (now left)) ⌝ }
     requires { ⌜ Listed narrow (now right) × ((listCount narrow (now right) ≡ 1 → ⊥) → n ≤ listCount narrow (now right)) ⌝ }
     requires { ⌜ (n ≤ narrow .listLimit) × (narrow .categoryLimit ≤ length (now numbers)) × (8 * narrow .categoryLimit ≤ length (now values)) ⌝ }
-    ensures { λ r. ⌜ (derivedIn r (now (numbers .exit)) (now (values .exit)) ≡ inWriting narrow (limited (narrow .categoryLimit) (eachFrom (columnOf alone (ruleOf c) (lists narrow (now (left .entry)) asWhole) (lists narrow (now (right .entry)) asWhole)) n 0))) × Within r ⌝ }
+    ensures { λ r. ⌜ (derivedIn r (now (numbers .exit)) (now (values .exit)) ≡ inWriting narrow (limited (narrow .categoryLimit) (eachFrom (columnOf alone eqZ (ruleOf c) (lists narrow (now (left .entry)) asWhole) (lists narrow (now (right .entry)) asWhole)) n 0))) × Within r ⌝ }
 {
     let mut store = [0i64; form::CATEGORY_LIMIT];
     let mut code: u32 = 0;
@@ -313,7 +313,7 @@ fn repeat_into(
 ) -> Derived
     requires { ⌜ Listed narrow (now left) × (listCount narrow (now left) ≡ 1) × Listed narrow (now right) × (listCount narrow (now right) ≡ 1) ⌝ }
     requires { ⌜ (n ≤ narrow .listLimit) × (narrow .categoryLimit ≤ length (now numbers)) × (8 * narrow .categoryLimit ≤ length (now values)) ⌝ }
-    ensures { λ r. ⌜ (derivedIn r (now (numbers .exit)) (now (values .exit)) ≡ inWriting narrow (limited (narrow .categoryLimit) (eachFrom (columnOf alone (ruleOf c) (lists narrow (now (left .entry)) asWhole) (lists narrow (now (right .entry)) asWhole)) n 0))) × Within r ⌝ }
+    ensures { λ r. ⌜ (derivedIn r (now (numbers .exit)) (now (values .exit)) ≡ inWriting narrow (limited (narrow .categoryLimit) (eachFrom (columnOf alone eqZ (ruleOf c) (lists narrow (now (left .entry)) asWhole) (lists narrow (now (right .entry)) asWhole)) n 0))) × Within r ⌝ }
 {
     let mut store = [0i64; form::CATEGORY_LIMIT];
     let answer = column(alone, c, left, right, 0, &mut store);
@@ -362,7 +362,7 @@ fn derive(
     requires { ⌜ Listed narrow (now left) × ((listCount narrow (now left) ≡ 1 → ⊥) → n ≤ listCount narrow (now left)) ⌝ }
     requires { ⌜ Listed narrow (now right) × ((listCount narrow (now right) ≡ 1 → ⊥) → n ≤ listCount narrow (now right)) ⌝ }
     requires { ⌜ (n ≤ narrow .listLimit) × (narrow .categoryLimit ≤ length (now numbers)) × (8 * narrow .categoryLimit ≤ length (now values)) ⌝ }
-    ensures { λ r. ⌜ (derivedIn r (now (numbers .exit)) (now (values .exit)) ≡ inWriting narrow (limited (narrow .categoryLimit) (eachFrom (columnOf alone (ruleOf c) (lists narrow (now (left .entry)) asWhole) (lists narrow (now (right .entry)) asWhole)) n 0))) × Within r ⌝ }
+    ensures { λ r. ⌜ (derivedIn r (now (numbers .exit)) (now (values .exit)) ≡ inWriting narrow (limited (narrow .categoryLimit) (eachFrom (columnOf alone eqZ (ruleOf c) (lists narrow (now (left .entry)) asWhole) (lists narrow (now (right .entry)) asWhole)) n 0))) × Within r ⌝ }
 {
     let l = base::sizes_at(left);
     let r = base::sizes_at(right);
@@ -384,7 +384,7 @@ pub fn lists_alone(
 ) -> Derived
     requires { ⌜ Listed narrow (now left) × (0 < columns) × (columns ≤ narrow .columnLimit) ⌝ }
     requires { ⌜ (narrow .categoryLimit ≤ length (now numbers)) × (8 * narrow .categoryLimit ≤ length (now values)) ⌝ }
-    ensures { λ r. ⌜ (derivedIn r (now (numbers .exit)) (now (values .exit)) ≡ inWriting narrow (limited (narrow .categoryLimit) (mapped (ruleOf c) columns (lists narrow (now (left .entry)) asWhole)))) × Within r ⌝ }
+    ensures { λ r. ⌜ (derivedIn r (now (numbers .exit)) (now (values .exit)) ≡ inWriting narrow (limited (narrow .categoryLimit) (mapped eqZ (ruleOf c) columns (lists narrow (now (left .entry)) asWhole)))) × Within r ⌝ }
 {
     let sizes = base::sizes_at(left);
     let n = spread(columns, sizes.lists);
@@ -402,7 +402,7 @@ pub fn lists_pair(
 ) -> Derived
     requires { ⌜ Listed narrow (now left) × Listed narrow (now right) × (0 < columns) × (columns ≤ narrow .columnLimit) ⌝ }
     requires { ⌜ (narrow .categoryLimit ≤ length (now numbers)) × (8 * narrow .categoryLimit ≤ length (now values)) ⌝ }
-    ensures { λ r. ⌜ (derivedIn r (now (numbers .exit)) (now (values .exit)) ≡ inWriting narrow (limited (narrow .categoryLimit) (combined (ruleOf c) columns (lists narrow (now (left .entry)) asWhole) (lists narrow (now (right .entry)) asWhole)))) × Within r ⌝ }
+    ensures { λ r. ⌜ (derivedIn r (now (numbers .exit)) (now (values .exit)) ≡ inWriting narrow (limited (narrow .categoryLimit) (combined eqZ (ruleOf c) columns (lists narrow (now (left .entry)) asWhole) (lists narrow (now (right .entry)) asWhole)))) × Within r ⌝ }
 {
     let l = base::sizes_at(left);
     let r = base::sizes_at(right);

@@ -8,16 +8,15 @@ use Prim.Native.Nat.{ℕ, zero, suc, _<_}
 use lib.Dec.{ltb}
 use lib.IntN.{ℤ}
 use lib.ListN.{length, length-map, getElem?}
-use Rattle.numbers.specs.Result.{Result, ok, refused, andThen}
-use Rattle.numbers.specs.Kind.{eqZ}
+use Rattle.numbers.specs.Result.{Result, ok, refused}
 use Rattle.numbers.proofs.Results.{never, then-ok-inv}
 use Rattle.utilities.specs.Lists.{firsts, repeated, standardized}
 use Rattle.utilities.specs.Columns.{each}
-use Rattle.utilities.proofs.Members.{firsts-all}
+use Rattle.utilities.proofs.Members.{Equals, firsts-all}
 use Rattle.base.specs.Encode.{total}
 use Rattle.base.specs.Sheet.{Nature, wholeLists}
 use Rattle.base.specs.declared.Component.{Component}
-use Rattle.categories.specs.Categories.{categoryRule, row, pairs, product, combined, mapped, counted, limited}
+use Rattle.categories.specs.Categories.{categoryRule, pairs, product, combined, mapped, counted, limited}
 use Rattle.plan.specs.Exact.{exact}
 use Rattle.plan.specs.Demand.{entryFor, InList, OneOrPerColumn}
 use Rattle.plan.proofs.Answers.{ok-same, some-same}
@@ -27,13 +26,13 @@ use Rattle.plan.proofs.Columns.{Columnwise, column-keeps, spread-column
 -- ---- no value of a rule is lost
 
 -- g gave a value, which is a member
-abbrev pub Found : Result ℤ → List ℤ → Type 0
-Found g cs = (v : ℤ) × (g ≡ ok v) × List·Memᴰ v cs
+abbrev pub Found : {X : Type 0} → Result X → List X → Type 0
+Found {X} g cs = (v : X) × (g ≡ ok v) × List·Memᴰ v cs
 
-in-list : {v : ℤ} {l m : List ℤ} → l ≡ m → List·Memᴰ v l → List·Memᴰ v m
-in-list {v} e h = subst (λ (l : List ℤ). List·Memᴰ v l) e h
+in-list : {X : Type 0} {v : X} {l m : List X} → l ≡ m → List·Memᴰ v l → List·Memᴰ v m
+in-list {X} {v} e h = subst (λ (l : List X). List·Memᴰ v l) e h
 
-pub each-found : (f : ℤ → Result ℤ) (a : ℤ) (us : List ℤ) {cs : List ℤ} → each f us ≡ ok cs → List·Memᴰ a us → Found (f a) cs
+pub each-found : {X Y : Type 0} (f : X → Result Y) (a : X) (us : List X) {cs : List Y} → each f us ≡ ok cs → List·Memᴰ a us → Found (f a) cs
 unfolding each
 each-found f a (u ∷ us) e (List·Memᴰ·head h) =
     let s = then-ok-inv (f u) _ e in
@@ -45,88 +44,86 @@ each-found f a (u ∷ us) e (List·Memᴰ·tail m) =
     let r = each-found f a us (t .is) m in
     (r .0, r .1, in-list (ok-same (t .after)) (List·Memᴰ·tail (r .2)))
 
-module _ (rule : ℤ → ℤ → Result ℤ) where
-  row-each : (a : ℤ) (bs : List ℤ) → row rule a bs ≡ each (rule a) bs
-  unfolding row each
-  row-each a [] = refl
-  row-each a (b ∷ bs) = ap (λ (g : Result (List ℤ)). andThen (rule a b) (λ c. andThen g (λ cs. ok (c ∷ cs)))) (row-each a bs)
+pairs-found : {X : Type 0} (rule : X → X → Result X) (a b : X) (us bs : List X) {cs : List X}
+    → pairs rule us bs ≡ ok cs → List·Memᴰ a us → List·Memᴰ b bs → Found (rule a b) cs
+unfolding pairs
+pairs-found {X} rule a b (u ∷ us) bs e (List·Memᴰ·head h) n =
+    let s = then-ok-inv (each (rule u) bs) _ e in
+    let t = then-ok-inv (pairs rule us bs) _ (s .after) in
+    let r = each-found (rule u) b bs (s .is) n in
+    (r .0, ap (λ (x : X). rule x b) h ∙ r .1, in-list (ok-same (t .after)) (Memᴰ·append-left (t .value) (r .2)))
+pairs-found rule a b (u ∷ us) bs e (List·Memᴰ·tail m) n =
+    let s = then-ok-inv (each (rule u) bs) _ e in
+    let t = then-ok-inv (pairs rule us bs) _ (s .after) in
+    let r = pairs-found rule a b us bs (t .is) m n in
+    (r .0, r .1, in-list (ok-same (t .after)) (Memᴰ·append-right (s .value) (r .2)))
 
-  pairs-found : (a b : ℤ) (us bs : List ℤ) {cs : List ℤ} → pairs rule us bs ≡ ok cs → List·Memᴰ a us → List·Memᴰ b bs → Found (rule a b) cs
-  unfolding pairs
-  pairs-found a b (u ∷ us) bs e (List·Memᴰ·head h) n =
-      let s = then-ok-inv (row rule u bs) _ e in
-      let t = then-ok-inv (pairs rule us bs) _ (s .after) in
-      let r = each-found (rule u) b bs (sym (row-each u bs) ∙ s .is) n in
-      (r .0, ap (λ (x : ℤ). rule x b) h ∙ r .1, in-list (ok-same (t .after)) (Memᴰ·append-left (t .value) (r .2)))
-  pairs-found a b (u ∷ us) bs e (List·Memᴰ·tail m) n =
-      let s = then-ok-inv (row rule u bs) _ e in
-      let t = then-ok-inv (pairs rule us bs) _ (s .after) in
-      let r = pairs-found a b us bs (t .is) m n in
-      (r .0, r .1, in-list (ok-same (t .after)) (Memᴰ·append-right (s .value) (r .2)))
-
-  pub product-found : (a b : ℤ) (us bs : List ℤ) {cs : List ℤ} → product rule us bs ≡ ok cs → List·Memᴰ a us → List·Memᴰ b bs → Found (rule a b) cs
+module _ {X : Type 0} (same : X → X → Bool) (equal : Equals same) where
+  product-found : (rule : X → X → Result X) (a b : X) (us bs : List X) {cs : List X}
+      → product same rule us bs ≡ ok cs → List·Memᴰ a us → List·Memᴰ b bs → Found (rule a b) cs
   unfolding product
-  product-found a b us bs e m n =
+  product-found rule a b us bs e m n =
       let s = then-ok-inv (pairs rule us bs) _ e in
-      let r = pairs-found a b us bs (s .is) m n in
-      (r .0, r .1, in-list (ok-same (s .after)) (firsts-all (r .0) (s .value) (r .2)))
+      let r = pairs-found rule a b us bs (s .is) m n in
+      (r .0, r .1, in-list (ok-same (s .after)) (firsts-all same equal (r .0) (s .value) (r .2)))
+
+  -- the operand's lists lose only repeats
+  elem-firsts : (ls : List (List X)) (j : ℕ) (a : X) → InList (getElem? ls j) a → InList (getElem? (map (firsts same) ls) j) a
+  elem-firsts [] j a m = tt
+  elem-firsts (l ∷ ls) zero a m = firsts-all same equal a l m
+  elem-firsts (l ∷ ls) (suc j) a m = elem-firsts ls j a m
+
+  entry-firsts : (ls : List (List X)) (j : ℕ) (a : X) → InList (entryFor ls j) a → InList (entryFor (map (firsts same) ls) j) a
+  unfolding entryFor
+  entry-firsts [] j a m = tt
+  entry-firsts (l ∷ []) j a m = firsts-all same equal a l m
+  entry-firsts (l ∷ k ∷ ls) j a m = elem-firsts (l ∷ k ∷ ls) j a m
 
 -- ---- over the columns
 
--- the operand's lists lose only repeats
-elem-firsts : (ls : List (List ℤ)) (j : ℕ) (a : ℤ) → InList (getElem? ls j) a → InList (getElem? (map (firsts eqZ) ls) j) a
-elem-firsts [] j a m = tt
-elem-firsts (l ∷ ls) zero a m = firsts-all a l m
-elem-firsts (l ∷ ls) (suc j) a m = elem-firsts ls j a m
-
-entry-firsts : (ls : List (List ℤ)) (j : ℕ) (a : ℤ) → InList (entryFor ls j) a → InList (entryFor (map (firsts eqZ) ls) j) a
-unfolding entryFor
-entry-firsts [] j a m = tt
-entry-firsts (l ∷ []) j a m = firsts-all a l m
-entry-firsts (l ∷ k ∷ ls) j a m = elem-firsts (l ∷ k ∷ ls) j a m
-
-same-count : (ls : List (List ℤ)) (columns : ℕ) → OneOrPerColumn ls columns → OneOrPerColumn (map (firsts eqZ) ls) columns
-same-count ls columns = ⊎-elim (λ h. inl (length-map ls (firsts eqZ) ∙ h)) (λ h. inr (length-map ls (firsts eqZ) ∙ h))
-
 -- the rule's value is in the list for a column, if that list is stated
-abbrev pub FoundIn : Result ℤ → Option (List ℤ) → Type 0
+abbrev pub FoundIn : {X : Type 0} → Result X → Option (List X) → Type 0
 FoundIn g none = ⊥
 FoundIn g (some l) = Found g l
 
-module _ (rule : ℤ → ℤ → Result ℤ) (columns : ℕ) where
-  combined-columns : (ls ms : List (List ℤ)) {ns : List (List ℤ)} → OneOrPerColumn ls columns → OneOrPerColumn ms columns
-      → combined rule columns ls ms ≡ ok ns → Columnwise (product rule) columns (map (firsts eqZ) ls) (map (firsts eqZ) ms) ns
-  unfolding combined standardized
-  combined-columns ls ms o p e =
-      spread-columns (product rule) columns (map (firsts eqZ) ls) (map (firsts eqZ) ms) (same-count ls columns o) (same-count ms columns p) e
+module _ {X : Type 0} (same : X → X → Bool) where
+  same-count : (ls : List (List X)) (columns : ℕ) → OneOrPerColumn ls columns → OneOrPerColumn (map (firsts same) ls) columns
+  same-count ls columns = ⊎-elim (λ h. inl (length-map ls (firsts same) ∙ h)) (λ h. inr (length-map ls (firsts same) ∙ h))
 
-  mapped-columns : (ls : List (List ℤ)) {ns : List (List ℤ)} → OneOrPerColumn ls columns → mapped rule columns ls ≡ ok ns
-      → Columnwise (λ l m. each (λ a. rule a a) l) columns (map (firsts eqZ) ls) (map (firsts eqZ) ls) ns
-  unfolding mapped standardized
-  mapped-columns ls o e =
-      let n = same-count ls columns o in
-      spread-columns (λ l m. each (λ a. rule a a) l) columns (map (firsts eqZ) ls) (map (firsts eqZ) ls) n n
-      (sym (each-twice (λ l m. each (λ a. rule a a) l) (repeated columns (map (firsts eqZ) ls))) ∙ e)
+  module _ (rule : X → X → Result X) (columns : ℕ) where
+    combined-columns : (ls ms : List (List X)) {ns : List (List X)} → OneOrPerColumn ls columns → OneOrPerColumn ms columns
+        → combined same rule columns ls ms ≡ ok ns → Columnwise (product same rule) columns (map (firsts same) ls) (map (firsts same) ms) ns
+    unfolding combined standardized
+    combined-columns ls ms o p e =
+        spread-columns (product same rule) columns (map (firsts same) ls) (map (firsts same) ms) (same-count ls columns o) (same-count ms columns p) e
 
-  module _ (ls ms ns : List (List ℤ)) (o : OneOrPerColumn ls columns) (p : OneOrPerColumn ms columns) (e : combined rule columns ls ms ≡ ok ns) where
-    pub combined-many : length ns ≡ columns
-    combined-many = combined-columns ls ms o p e .many
+    mapped-columns : (ls : List (List X)) {ns : List (List X)} → OneOrPerColumn ls columns → mapped same rule columns ls ≡ ok ns
+        → Columnwise (λ l m. each (λ a. rule a a) l) columns (map (firsts same) ls) (map (firsts same) ls) ns
+    unfolding mapped standardized
+    mapped-columns ls o e =
+        let n = same-count ls columns o in
+        spread-columns (λ l m. each (λ a. rule a a) l) columns (map (firsts same) ls) (map (firsts same) ls) n n
+        (sym (each-twice (λ l m. each (λ a. rule a a) l) (repeated columns (map (firsts same) ls))) ∙ e)
 
-    pub combined-found : (j : ℕ) (a b : ℤ) → j < columns → InList (entryFor ls j) a → InList (entryFor ms j) b → FoundIn (rule a b) (entryFor ns j)
-    combined-found j a b h m n =
-        column-keeps (λ k. InList k a) (λ k. InList k b) (λ k. FoundIn (rule a b) k)
-        (λ x y z e m n. product-found rule a b x y e m n)
-        (combined-columns ls ms o p e .at j h) (entry-firsts ls j a m) (entry-firsts ms j b n)
+    module _ (ls ms ns : List (List X)) (o : OneOrPerColumn ls columns) (p : OneOrPerColumn ms columns) (e : combined same rule columns ls ms ≡ ok ns) where
+      pub combined-many : length ns ≡ columns
+      combined-many = combined-columns ls ms o p e .many
 
-  module _ (ls ns : List (List ℤ)) (o : OneOrPerColumn ls columns) (e : mapped rule columns ls ≡ ok ns) where
-    pub mapped-many : length ns ≡ columns
-    mapped-many = mapped-columns ls o e .many
+      pub combined-found : Equals same → (j : ℕ) (a b : X) → j < columns → InList (entryFor ls j) a → InList (entryFor ms j) b → FoundIn (rule a b) (entryFor ns j)
+      combined-found equal j a b h m n =
+          column-keeps (λ k. InList k a) (λ k. InList k b) (λ k. FoundIn (rule a b) k)
+          (λ x y z e m n. product-found same equal rule a b x y e m n)
+          (combined-columns ls ms o p e .at j h) (entry-firsts same equal ls j a m) (entry-firsts same equal ms j b n)
 
-    pub mapped-found : (j : ℕ) (a : ℤ) → j < columns → InList (entryFor ls j) a → FoundIn (rule a a) (entryFor ns j)
-    mapped-found j a h m =
-        column-keeps (λ k. InList k a) (λ k. InList k a) (λ k. FoundIn (rule a a) k)
-        (λ x y z e m n. each-found (λ a. rule a a) a x e m)
-        (mapped-columns ls o e .at j h) (entry-firsts ls j a m) (entry-firsts ls j a m)
+    module _ (ls ns : List (List X)) (o : OneOrPerColumn ls columns) (e : mapped same rule columns ls ≡ ok ns) where
+      pub mapped-many : length ns ≡ columns
+      mapped-many = mapped-columns ls o e .many
+
+      pub mapped-found : Equals same → (j : ℕ) (a : X) → j < columns → InList (entryFor ls j) a → FoundIn (rule a a) (entryFor ns j)
+      mapped-found equal j a h m =
+          column-keeps (λ k. InList k a) (λ k. InList k a) (λ k. FoundIn (rule a a) k)
+          (λ x y z e m n. each-found (λ a. rule a a) a x e m)
+          (mapped-columns ls o e .at j h) (entry-firsts same equal ls j a m) (entry-firsts same equal ls j a m)
 
 -- what was found is the exact result
 pub found-exact : (c : Component) (type : ℕ) (rule : ℤ → ℤ → Result ℤ) (a b v : ℤ) (l : Option (List ℤ))
@@ -137,11 +134,11 @@ found-exact c type rule a b v (some l) e f w =
 
 -- ---- 26 changes nothing of what it passes
 
-counted-ok : (limit : ℕ) (ls : List (List ℤ)) {ms : List (List ℤ)} → counted limit ls ≡ ok ms → ls ≡ ms
+counted-ok : {X : Type 0} (limit : ℕ) (ls : List (List X)) {ms : List (List X)} → counted limit ls ≡ ok ms → ls ≡ ms
 unfolding counted
-counted-ok limit ls e = go (ltb limit (total ls)) e
+counted-ok {X} limit ls e = go (ltb limit (total ls)) e
   where
-    go : (t : Bool) {ms : List (List ℤ)} → cond t (refused 26) (ok ls) ≡ ok ms → ls ≡ ms
+    go : (t : Bool) {ms : List (List X)} → cond t (refused 26) (ok ls) ≡ ok ms → ls ≡ ms
     go true e = absurd (never (sym e))
     go false e = ok-same e
 

@@ -24,7 +24,7 @@ use Rattle.base.specs.declared.Component.{Component}
 use Rattle.base.specs.declared.Component.the-variants as C
 use Rattle.ends.specs.Ends.{endRule}
 use Rattle.ranges.specs.Ranges.{wholeRule, rangePair, rangeAlone}
-use Rattle.categories.specs.Categories.{remainder, modWhole, powerWhole, categoryRule, row, pairs, product, combined, mapped, counted, limited}
+use Rattle.categories.specs.Categories.{remainder, modWhole, powerWhole, categoryRule, pairs, product, combined, mapped, counted, limited}
 use Rattle.transforms.specs.Natures.{ruled, wholeListsOf, listsPair, listsAlone, wholeRangeWith, floatRangeWith, listsWith, binaryNature, unaryNature}
 use Rattle.writer.specs.WellFormed.{Each, Whole, Double, SpanFits, NatureFits}
 use Rattle.plan.proofs.Columns.{range-columns, alone-columns}
@@ -95,32 +95,26 @@ category-fits C.Negative type = λ a b p q. whole-fits .neg a p
 abbrev Wholes : List ℤ → Type 0
 Wholes l = Each Whole l
 
-standard-each : (columns : ℕ) (ls : List (List ℤ)) → Each Wholes ls → Each Wholes (standardized eqZ columns ls)
+module _ {X : Type 0} (P : X → Type 0) (same : X → X → Bool) where
+  standard-each : (columns : ℕ) (ls : List (List X)) → Each (Each P) ls → Each (Each P) (standardized same columns ls)
+  unfolding standardized
+  standard-each columns ls p = each-repeated (Each P) columns (map (firsts same) ls) (each-map (Each P) (Each P) (firsts same) (λ l q. each-firsts P same l q) ls p)
+
+  module _ (rule : X → X → Result X) (fit : (a b : X) → P a → P b → Gives P (rule a b)) where
+    pairs-fit : (us bs : List X) → Each P us → Each P bs → Gives (Each P) (pairs rule us bs)
+    unfolding pairs
+    pairs-fit [] bs p q = tt
+    pairs-fit (a ∷ us) bs p q =
+        gives-then (Each P) (Each P) (each (rule a) bs) _ (each-gives P P (rule a) (λ b f. fit a b (p .0) f) bs q)
+        (λ cs f. gives-then (Each P) (Each P) (pairs rule us bs) _ (pairs-fit us bs (p .1) q) (λ ds g. each-append P cs ds f g))
+
+    product-fits : (us bs : List X) → Each P us → Each P bs → Gives (Each P) (product same rule us bs)
+    unfolding product
+    product-fits us bs p q = gives-then (Each P) (Each P) (pairs rule us bs) _ (pairs-fit us bs p q) (λ cs f. each-firsts P same cs f)
+
+standard-within : {X : Type 0} (same : X → X → Bool) (columns k : ℕ) (ls : List (List X)) → columns ≤ k → length ls ≤ k → length (standardized same columns ls) ≤ k
 unfolding standardized
-standard-each columns ls p = each-repeated Wholes columns (map (firsts eqZ) ls) (each-map Wholes Wholes (firsts eqZ) (λ l q. each-firsts Whole eqZ l q) ls p)
-
-standard-within : (columns k : ℕ) (ls : List (List ℤ)) → columns ≤ k → length ls ≤ k → length (standardized eqZ columns ls) ≤ k
-unfolding standardized
-standard-within columns k ls h l = repeated-within columns k (map (firsts eqZ) ls) h (rw length-map l)
-
-module _ (rule : ℤ → ℤ → Result ℤ) (fit : RuleFits rule) where
-  row-fits : (a : ℤ) (bs : List ℤ) → Whole a → Wholes bs → Gives Wholes (row rule a bs)
-  unfolding row
-  row-fits a [] p q = tt
-  row-fits a (b ∷ bs) p q =
-      gives-then Whole Wholes (rule a b) _ (fit a b p (q .0))
-      (λ c f. gives-then Wholes Wholes (row rule a bs) _ (row-fits a bs p (q .1)) (λ cs g. (f, g)))
-
-  pairs-fit : (us bs : List ℤ) → Wholes us → Wholes bs → Gives Wholes (pairs rule us bs)
-  unfolding pairs
-  pairs-fit [] bs p q = tt
-  pairs-fit (a ∷ us) bs p q =
-      gives-then Wholes Wholes (row rule a bs) _ (row-fits a bs (p .0) q)
-      (λ cs f. gives-then Wholes Wholes (pairs rule us bs) _ (pairs-fit us bs (p .1) q) (λ ds g. each-append Whole cs ds f g))
-
-  product-fits : (us bs : List ℤ) → Wholes us → Wholes bs → Gives Wholes (product rule us bs)
-  unfolding product
-  product-fits us bs p q = gives-then Wholes Wholes (pairs rule us bs) _ (pairs-fit us bs p q) (λ cs f. each-firsts Whole eqZ cs f)
+standard-within same columns k ls h l = repeated-within columns k (map (firsts same) ls) h (rw length-map l)
 
 -- ---- natures
 
@@ -167,12 +161,12 @@ module _ (limit : ℕ) where
         gives-checked (Made limit) _ _ refl
         (ruled-made (categoryRule c type) _ (category-fits c type)
         (λ rule f.
-        limited-made (eachPair (product rule) us vs)
-        (gives-more (Each Wholes) (Few Wholes) (eachPair (product rule) us vs)
-        (pair-gives Wholes Wholes (product rule) (product-fits rule f) us vs (standard-each columns ls p) (standard-each columns (wholeListsOf r) q))
+        limited-made (eachPair (product eqZ rule) us vs)
+        (gives-more (Each Wholes) (Few Wholes) (eachPair (product eqZ rule) us vs)
+        (pair-gives Wholes Wholes (product eqZ rule) (product-fits Whole eqZ rule f) us vs (standard-each Whole eqZ columns ls p) (standard-each Whole eqZ columns (wholeListsOf r) q))
         (λ ns e m.
-        let a = pair-length (product rule) us vs e in
-        let b = standard-within columns (narrow .listLimit) ls few n in
+        let a = pair-length (product eqZ rule) us vs e in
+        let b = standard-within eqZ columns (narrow .listLimit) ls few n in
         (omega arith, m)))))
 
     alone-made : (ls : List (List ℤ)) → length ls ≤ narrow .listLimit → Each Wholes ls → Gives (Made limit) (listsAlone limit c type columns (wholeLists ls))
@@ -184,10 +178,10 @@ module _ (limit : ℕ) where
         (λ rule f.
         limited-made (each (each (λ a. rule a a)) us)
         (gives-more (Each Wholes) (Few Wholes) (each (each (λ a. rule a a)) us)
-        (each-gives Wholes Wholes (each (λ a. rule a a)) (λ l q. each-gives Whole Whole (λ a. rule a a) (λ a w. f a a w w) l q) us (standard-each columns ls p))
+        (each-gives Wholes Wholes (each (λ a. rule a a)) (λ l q. each-gives Whole Whole (λ a. rule a a) (λ a w. f a a w w) l q) us (standard-each Whole eqZ columns ls p))
         (λ ns e m.
         let a = each-length (each (λ a. rule a a)) us e in
-        let b = standard-within columns (narrow .listLimit) ls few n in
+        let b = standard-within eqZ columns (narrow .listLimit) ls few n in
         (omega arith, m)))))
 
     -- bool and float categories have no rule

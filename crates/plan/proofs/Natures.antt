@@ -6,7 +6,8 @@ use mathlib.Core.Option.{Option, none, some}
 use Prim.Native.Nat.{ℕ, _<_}
 use lib.IntN.{ℤ, natAbs}
 use Rattle.numbers.specs.Result.{Result, ok, andThen}
-use Rattle.numbers.specs.Kind.{Span, whole}
+use Rattle.numbers.specs.Kind.{Span, whole, eqZ}
+use Rattle.numbers.proofs.Choices.{eqZ-true}
 use Rattle.numbers.proofs.Parts.{abs-zero}
 use Rattle.numbers.proofs.Results.{never, then-ok-inv}
 use Rattle.base.specs.Sheet.{Nature, absent, wholeRange, floatRange, wholeLists, boolLists, floatLists}
@@ -98,13 +99,13 @@ module _ (limit : ℕ) (c : Component) (type columns : ℕ) where
       → listsPair limit c type columns (wholeLists ls) (wholeLists ms) ≡ ok k → Derived c columns (wholeLists ls) (wholeLists ms) k
   unfolding listsPair
   lists ls ms o p e =
-      let f = ruled-inv (categoryRule c type) (λ rule. limited limit (combined rule columns ls ms)) (checked-rest _ _ e) in
-      let g = limited-ok limit (combined (f .0) columns ls ms) (f .2) in
+      let f = ruled-inv (categoryRule c type) (λ rule. limited limit (combined eqZ rule columns ls ms)) (checked-rest _ _ e) in
+      let g = limited-ok limit (combined eqZ (f .0) columns ls ms) (f .2) in
       subst (λ (k : Nature). Derived c columns (wholeLists ls) (wholeLists ms) k) (sym (g .2))
       (record {
-        fits = inr (combined-many (f .0) columns ls ms (g .0) o p (g .1));
+        fits = inr (combined-many eqZ (f .0) columns ls ms (g .0) o p (g .1));
         keeps = λ j h a b v q m n w.
-            found-exact c type (f .0) a b v (entryFor (g .0) j) (f .1) (combined-found (f .0) columns ls ms (g .0) o p (g .1) j a b h m n) w;
+            found-exact c type (f .0) a b v (entryFor (g .0) j) (f .1) (combined-found eqZ (f .0) columns ls ms (g .0) o p (g .1) eqZ-true j a b h m n) w;
       })
 
   pub binary-derived : (l r : Nature) {k : Nature} → Spread l columns → Spread r columns
@@ -143,13 +144,13 @@ module _ (limit : ℕ) (c : Component) (type columns : ℕ) where
         → Derived c columns (wholeLists ls) r k
     unfolding listsAlone
     alone-lists ls o e =
-        let f = ruled-inv (categoryRule c type) (λ rule. limited limit (mapped rule columns ls)) (checked-rest _ _ e) in
-        let g = limited-ok limit (mapped (f .0) columns ls) (f .2) in
+        let f = ruled-inv (categoryRule c type) (λ rule. limited limit (mapped eqZ rule columns ls)) (checked-rest _ _ e) in
+        let g = limited-ok limit (mapped eqZ (f .0) columns ls) (f .2) in
         subst (λ (k : Nature). Derived c columns (wholeLists ls) r k) (sym (g .2))
         (record {
-          fits = inr (mapped-many (f .0) columns ls (g .0) o (g .1));
+          fits = inr (mapped-many eqZ (f .0) columns ls (g .0) o (g .1));
           keeps = λ j h a b v q m n w.
-              found-exact c type (f .0) a a v (entryFor (g .0) j) (f .1) (mapped-found (f .0) columns ls (g .0) o (g .1) j a h m) (left a b ∙ w);
+              found-exact c type (f .0) a a v (entryFor (g .0) j) (f .1) (mapped-found eqZ (f .0) columns ls (g .0) o (g .1) eqZ-true j a h m) (left a b ∙ w);
         })
 
     pub unary-derived : (l : Nature) {k : Nature} → Spread l columns → unaryNature limit c type columns l ≡ ok k → Derived c columns l r k

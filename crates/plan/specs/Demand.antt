@@ -41,7 +41,7 @@ abbrev pub InSpan : Option (Span ℤ) → ℤ → Type 0
 InSpan none v = Unit {0}
 InSpan (some r) v = AtLeast (r .lower) v × AtMost (r .upper) v
 
-abbrev pub InList : Option (List ℤ) → ℤ → Type 0
+abbrev pub InList : {X : Type 0} → Option (List X) → X → Type 0
 InList none v = Unit {0}
 InList (some l) v = List·Memᴰ v l
 

@@ -9,7 +9,7 @@ use lib.Dec.{eqb, ltb}
 use borrow.Author.Tests.{not-true}
 use Rattle.numbers.specs.Result.{Result, ok, refused, andThen, Check, check, checked}
 use Rattle.numbers.specs.Checked.{checkedOf, quotientOf}
-use Rattle.numbers.specs.Kind.{Kind, Span, whole, float, fitting, eqZ}
+use Rattle.numbers.specs.Kind.{Kind, Span, whole, float, fitting}
 use Rattle.numbers.specs.declared.Checked.{Checked}
 use Rattle.numbers.specs.declared.Checked.the-variants.{Fits, Leaves}
 use Rattle.utilities.specs.Lists.{every, standardized, repeated}
@@ -21,7 +21,7 @@ use Rattle.base.specs.declared.Component.{Component}
 use Rattle.base.specs.declared.Component.the-variants as C
 use Rattle.ends.specs.Ends.{both, present, fromTwo, fromOne, fromBoth, addEnds, subEnds, negEnds, absLower, absUpper, absEnds, corners, mulCorners, mulEnds, divCorners, divUpper, divLower, divPresent, divBy, divEnds, modEnds, endRule}
 use Rattle.ranges.specs.Ranges.{wholeRule, rangePair, rangeAlone}
-use Rattle.categories.specs.Categories.{categoryRule, row, pairs, product, combined, mapped, counted, limited}
+use Rattle.categories.specs.Categories.{categoryRule, pairs, product, combined, mapped, counted, limited}
 use Rattle.transforms.proofs.Passing.{Passing}
 
 -- a value, or a refusal with another number
@@ -200,28 +200,23 @@ module _ {E : Type 0} (rule : Span E → Span E → Result (Span E)) (f : (x y :
 
 -- ---- categories
 
-module _ (rule : ℤ → ℤ → Result ℤ) (f : (a b : ℤ) → Clear (rule a b)) where
-  row-clear : (a : ℤ) (bs : List ℤ) → Clear (row rule a bs)
-  unfolding row
-  row-clear a [] = value
-  row-clear a (b ∷ bs) = then-clear _ (f a b) (λ c. then-clear _ (row-clear a bs) (λ cs. value))
-
-  pairs-clear : (us bs : List ℤ) → Clear (pairs rule us bs)
+module _ {X : Type 0} (same : X → X → Bool) (rule : X → X → Result X) (f : (a b : X) → Clear (rule a b)) where
+  pairs-clear : (us bs : List X) → Clear (pairs rule us bs)
   unfolding pairs
   pairs-clear [] bs = value
-  pairs-clear (a ∷ us) bs = then-clear _ (row-clear a bs) (λ cs. then-clear _ (pairs-clear us bs) (λ ds. value))
+  pairs-clear (a ∷ us) bs = then-clear _ (each-clear (rule a) (f a) bs) (λ cs. then-clear _ (pairs-clear us bs) (λ ds. value))
 
-  product-clear : (us bs : List ℤ) → Clear (product rule us bs)
+  product-clear : (us bs : List X) → Clear (product same rule us bs)
   unfolding product
   product-clear us bs = then-clear _ (pairs-clear us bs) (λ cs. value)
 
-  pub combined-clear : (columns : ℕ) (ls ms : List (List ℤ)) → Clear (combined rule columns ls ms)
+  pub combined-clear : (columns : ℕ) (ls ms : List (List X)) → Clear (combined same rule columns ls ms)
   unfolding combined
-  combined-clear columns ls ms = each-pair-clear (product rule) product-clear (standardized eqZ columns ls) (standardized eqZ columns ms)
+  combined-clear columns ls ms = each-pair-clear (product same rule) product-clear (standardized same columns ls) (standardized same columns ms)
 
-  pub mapped-clear : (columns : ℕ) (ls : List (List ℤ)) → Clear (mapped rule columns ls)
+  pub mapped-clear : (columns : ℕ) (ls : List (List X)) → Clear (mapped same rule columns ls)
   unfolding mapped
-  mapped-clear columns ls = each-clear _ (λ l. each-clear _ (λ a. f a a) l) (standardized eqZ columns ls)
+  mapped-clear columns ls = each-clear _ (λ l. each-clear _ (λ a. f a a) l) (standardized same columns ls)
 
 pub limited-clear : (limit : ℕ) {g : Result (List (List ℤ))} → Clear g → Clear (limited limit g)
 unfolding counted

@@ -13,6 +13,7 @@ use lib.IntN.{ℤ}
 use lib.Dec.{eqb}
 use borrow.Author.Tests.{eqb-false, ne-eqb, eq-eqb, not-true}
 use Rattle.numbers.specs.Result.{Result, refused, check, checked, firstFailing}
+use Rattle.numbers.specs.Kind.{eqZ}
 use Rattle.base.specs.Form.{narrow, byteAt, natureAt, isRangeNature, listCount, floatListsNature}
 use Rattle.base.specs.Sheet.{Nature}
 use Rattle.base.specs.Decode.{asWhole, natureIn, lists}
@@ -155,10 +156,10 @@ rule-some C.Negative type h = refl
 module _ (limit : ℕ) (c : Component) (type columns : ℕ) where
   -- what 19 to 21 leave
   abbrev combining : Nature → Nature → Result Nature
-  combining l r = ruled (ruleFor c type l) (λ rule. limited limit (combined rule columns (wholeListsOf l) (wholeListsOf r)))
+  combining l r = ruled (ruleFor c type l) (λ rule. limited limit (combined eqZ rule columns (wholeListsOf l) (wholeListsOf r)))
 
   abbrev mapping : Nature → Result Nature
-  mapping l = ruled (ruleFor c type l) (λ rule. limited limit (mapped rule columns (wholeListsOf l)))
+  mapping l = ruled (ruleFor c type l) (λ rule. limited limit (mapped eqZ rule columns (wholeListsOf l)))
 
   module _ (left right : List ℕ) where
     abbrev l : Nature
@@ -200,7 +201,7 @@ module _ (limit : ℕ) (c : Component) (type columns : ℕ) where
 
       module _ (d : byteAt narrow natureAt left ≡ byteAt narrow natureAt right) (e : byteAt narrow natureAt left ≡ 3) where
         whole-pair : listsPair limit c type columns l r
-            ≡ ruled (categoryRule c type) (λ rule. limited limit (combined rule columns (lists narrow left asWhole) (lists narrow right asWhole)))
+            ≡ ruled (categoryRule c type) (λ rule. limited limit (combined eqZ rule columns (lists narrow left asWhole) (lists narrow right asWhole)))
         whole-pair =
             equal-lists d
             ∙ ap₂ (λ (x y : Nature). combining x y) (nature-whole-lists narrow left e) (nature-whole-lists narrow right (sym d ∙ e))
@@ -210,14 +211,14 @@ module _ (limit : ℕ) (c : Component) (type columns : ℕ) where
             ⊎-elim
             (λ h.
             whole-pair
-            ∙ ap (λ (o : Option (ℤ → ℤ → Result ℤ)). ruled o (λ rule. limited limit (combined rule columns (lists narrow left asWhole) (lists narrow right asWhole)))) (rule-none c type h n))
+            ∙ ap (λ (o : Option (ℤ → ℤ → Result ℤ)). ruled o (λ rule. limited limit (combined eqZ rule columns (lists narrow left asWhole) (lists narrow right asWhole)))) (rule-none c type h n))
             (λ h. absurd (yes-no (sym h ∙ g .lists .no-range)))
             reached
 
-        pub pair-ruled : hasRule c ≡ true → listsPair limit c type columns l r ≡ limited limit (combined (ruleOf c) columns (lists narrow left asWhole) (lists narrow right asWhole))
+        pub pair-ruled : hasRule c ≡ true → listsPair limit c type columns l r ≡ limited limit (combined eqZ (ruleOf c) columns (lists narrow left asWhole) (lists narrow right asWhole))
         pair-ruled h =
             whole-pair
-            ∙ ap (λ (o : Option (ℤ → ℤ → Result ℤ)). ruled o (λ rule. limited limit (combined rule columns (lists narrow left asWhole) (lists narrow right asWhole)))) (rule-some c type h)
+            ∙ ap (λ (o : Option (ℤ → ℤ → Result ℤ)). ruled o (λ rule. limited limit (combined eqZ rule columns (lists narrow left asWhole) (lists narrow right asWhole)))) (rule-some c type h)
 
   -- ---- one operand
 
@@ -234,8 +235,8 @@ module _ (limit : ℕ) (c : Component) (type columns : ℕ) where
       pub bool-alone : byteAt narrow natureAt s ≡ 4 → listsAlone limit c type columns (natureIn narrow s) ≡ refused 22
       bool-alone e = alone-opened ∙ ap (λ (k : Nature). mapping k) (nature-bool-lists narrow s e)
 
-      pub alone-ruled : byteAt narrow natureAt s ≡ 3 → hasRule c ≡ true → listsAlone limit c type columns (natureIn narrow s) ≡ limited limit (mapped (ruleOf c) columns (lists narrow s asWhole))
+      pub alone-ruled : byteAt narrow natureAt s ≡ 3 → hasRule c ≡ true → listsAlone limit c type columns (natureIn narrow s) ≡ limited limit (mapped eqZ (ruleOf c) columns (lists narrow s asWhole))
       alone-ruled e h =
           alone-opened
           ∙ ap (λ (k : Nature). mapping k) (nature-whole-lists narrow s e)
-          ∙ ap (λ (o : Option (ℤ → ℤ → Result ℤ)). ruled o (λ rule. limited limit (mapped rule columns (lists narrow s asWhole)))) (rule-some c type h)
+          ∙ ap (λ (o : Option (ℤ → ℤ → Result ℤ)). ruled o (λ rule. limited limit (mapped eqZ rule columns (lists narrow s asWhole)))) (rule-some c type h)

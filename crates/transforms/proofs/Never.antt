@@ -12,7 +12,7 @@ use lib.ListN.{length}
 use lib.Dec.{T, eqb, leb}
 use borrow.Author.Tests.{not-true, eq-eqb}
 use Rattle.numbers.specs.Result.{Result, ok, refused, Check, check}
-use Rattle.numbers.specs.Kind.{Span, whole, float}
+use Rattle.numbers.specs.Kind.{Span, whole, float, eqZ}
 use Rattle.utilities.specs.Lists.{every}
 use Rattle.base.specs.Form.{Form, intType, floatType}
 use Rattle.base.specs.Sheet.{Sheet, Nature, absent, wholeRange, floatRange, wholeLists, boolLists, floatLists}
@@ -56,13 +56,13 @@ module _ (limit : ℕ) (c : Component) (type columns : ℕ) where
   unfolding listsPair every
   pair-clear e l r =
       checked-clear (bothListChecks l r) refl
-      (λ p. ruled-clear (ruleFor c type l) _ (rule-for-clear e l) (λ rule f. limited-clear limit (combined-clear rule f columns (wholeListsOf l) (wholeListsOf r))))
+      (λ p. ruled-clear (ruleFor c type l) _ (rule-for-clear e l) (λ rule f. limited-clear limit (combined-clear eqZ rule f columns (wholeListsOf l) (wholeListsOf r))))
 
   alone-clear : isIntPower c type ≡ false → (l : Nature) → Clear (listsAlone limit c type columns l)
   unfolding listsAlone every
   alone-clear e l =
       checked-clear (listChecks l) refl
-      (λ p. ruled-clear (ruleFor c type l) _ (rule-for-clear e l) (λ rule f. limited-clear limit (mapped-clear rule f columns (wholeListsOf l))))
+      (λ p. ruled-clear (ruleFor c type l) _ (rule-for-clear e l) (λ rule f. limited-clear limit (mapped-clear eqZ rule f columns (wholeListsOf l))))
 
   -- a pair of categories does not meet Int Power
   abbrev Apart : Nature → Type 0

@@ -7,7 +7,7 @@ use lib.IntN.{ℤ}
 use lib.Dec.{eqb}
 use lib.Ieee.{Float}
 use Rattle.numbers.specs.Result.{Result, ok, refused, andThen, Check, check, checked}
-use Rattle.numbers.specs.Kind.{Span, whole, float}
+use Rattle.numbers.specs.Kind.{Span, whole, float, eqZ}
 use Rattle.base.specs.Form.{floatListsNature}
 use Rattle.base.specs.Sheet.{Nature, absent, wholeRange, floatRange, wholeLists, boolLists, floatLists}
 use Rattle.base.specs.Encode.{natureNumber, entryCount}
@@ -56,12 +56,12 @@ module _ (limit : ℕ) (c : Component) (type columns : ℕ) where
   unfoldable pub listsPair : Nature → Nature → Result Nature
   listsPair l r =
       checked (bothListChecks l r)
-      (ruled (ruleFor c type l) (λ rule. limited limit (combined rule columns (wholeListsOf l) (wholeListsOf r))))
+      (ruled (ruleFor c type l) (λ rule. limited limit (combined eqZ rule columns (wholeListsOf l) (wholeListsOf r))))
 
   unfoldable pub listsAlone : Nature → Result Nature
   listsAlone l =
       checked (listChecks l)
-      (ruled (ruleFor c type l) (λ rule. limited limit (mapped rule columns (wholeListsOf l))))
+      (ruled (ruleFor c type l) (λ rule. limited limit (mapped eqZ rule columns (wholeListsOf l))))
 
   unfoldable pub wholeRangeWith : List (Span ℤ) → Nature → Result Nature
   wholeRangeWith xs absent = ok absent

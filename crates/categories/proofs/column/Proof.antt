@@ -8,6 +8,7 @@ use lib.ListN.{length}
 use denote.Ref.{now}
 use borrow.Author.Needs.{needs}
 use Rattle.numbers.specs.Result.{Result}
+use Rattle.numbers.specs.Kind.{eqZ}
 use Rattle.utilities.specs.Columns.{each}
 use Rattle.utilities.proofs.Begins.{begins-room}
 use Rattle.base.specs.Form.{narrow}
@@ -33,7 +34,7 @@ returns c =
     let a = c .before .before .before .before .before .before .before .before .before .before .args in
     let ls = lists narrow (now (a .left)) asWhole in
     let ms = lists narrow (now (a .right)) asWhole in
-    let e = ap (each (λ z. ruleOf (a .c) z z)) (list .ensures .start) ∙ ap (λ (b : Bool). columnOf b (ruleOf (a .c)) ls ms (a .j)) (sym (c .before .before .before .before .if1 .taken)) in
+    let e = ap (each (λ z. ruleOf (a .c) z z)) (list .ensures .start) ∙ ap (λ (b : Bool). columnOf b eqZ (ruleOf (a .c)) ls ms (a .j)) (sym (c .before .before .before .before .if1 .taken)) in
     subst (λ (g : Result (List ℤ)). Produces (call .result) (call .last .1 .1 .1 .0) g) e (call .ensures)
 
 product-into-requires : tie.Need-product-into-requires
@@ -51,7 +52,7 @@ returns-2 c =
     let a = c .before .before .before .before .before .before .before .before .before .before .before .before .before .before .args in
     let ls = lists narrow (now (a .left)) asWhole in
     let ms = lists narrow (now (a .right)) asWhole in
-    let e = ap₂ (product (ruleOf (a .c))) (left .ensures .start) (right .ensures .start) ∙ ap (λ (b : Bool). columnOf b (ruleOf (a .c)) ls ms (a .j)) (sym (c .before .before .before .before .before .before .before .before .if1 .left)) in
+    let e = ap₂ (product eqZ (ruleOf (a .c))) (left .ensures .start) (right .ensures .start) ∙ ap (λ (b : Bool). columnOf b eqZ (ruleOf (a .c)) ls ms (a .j)) (sym (c .before .before .before .before .before .before .before .before .if1 .left)) in
     subst (λ (g : Result (List ℤ)). Produces (call .result) (call .last .1 .1 .1 .1 .1 .0) g) e (call .ensures)
 
 pub column-spec : {M : Type 1} → statement M

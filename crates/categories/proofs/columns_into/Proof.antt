@@ -10,6 +10,7 @@ use denote.Ref.{now}
 use borrow.Author.Needs.{needs}
 use Rattle.bytes.specs.declared.Put.{Put}
 use Rattle.numbers.specs.Result.{Result, refused}
+use Rattle.numbers.specs.Kind.{eqZ}
 use Rattle.base.specs.Form.{narrow}
 use Rattle.base.specs.Decode.{asWhole, lists}
 use Rattle.writer.specs.Written.{inWriting, derivedIn}
@@ -28,7 +29,7 @@ Inv-columns alone c n left right numbers₀ values₀ store₀ code₀ t₀ j₀
     × (length values ≡ length values₀)
     × (length store ≡ narrow .categoryLimit)
     × (code ≡ 0)
-    × Columns (columnOf alone (ruleOf c) (lists narrow left asWhole) (lists narrow right asWhole)) n j t numbers values
+    × Columns (columnOf alone eqZ (ruleOf c) (lists narrow left asWhole) (lists narrow right asWhole)) n j t numbers values
 
 abbrev μ-columns : tie.MeasureT-columns
 μ-columns alone c n left right numbers₀ values₀ store₀ code₀ t₀ j₀ numbers values store code t j = n - j
@@ -36,7 +37,7 @@ abbrev μ-columns : tie.MeasureT-columns
 columns-holds : tie.Need-columns-holds Inv-columns μ-columns
 columns-holds c =
     let a = c .before .before .before .before .args in
-    let f = columnOf (a .alone) (ruleOf (a .c)) (lists narrow (now (a .left)) asWhole) (lists narrow (now (a .right)) asWhole) in
+    let f = columnOf (a .alone) eqZ (ruleOf (a .c)) (lists narrow (now (a .left)) asWhole) (lists narrow (now (a .right)) asWhole) in
     (search needs, refl, refl, search needs, refl, columns-start f (a .n) (now (a .numbers)) (now (a .values)))
 
 column-requires : tie.Need-column-requires Inv-columns μ-columns
@@ -68,7 +69,7 @@ columns-again c =
     let col = add .before .before .before .before .before in
     let l = col .before .before .before .columns in
     let a = col .before .before .before .before .before .before .before .before .args in
-    let g = columnOf (a .alone) (ruleOf (a .c)) (lists narrow (now (a .left)) asWhole) (lists narrow (now (a .right)) asWhole) (l .j) in
+    let g = columnOf (a .alone) eqZ (ruleOf (a .c)) (lists narrow (now (a .left)) asWhole) (lists narrow (now (a .right)) asWhole) (l .j) in
     let numbers = add .add-column .last .1 .1 .1 .1 .0 in
     let values = add .add-column .last .1 .1 .1 .1 .1 .0 in
     let adds = subst (λ (p : Put). Adds p g (l .j) (l .t) (l .numbers) (l .values) numbers values) (c .before .put .given .1) (add .add-column .ensures g (col .column .ensures)) in (
@@ -83,7 +84,7 @@ columns-again c =
 Whole : tie.Left-columns Inv-columns μ-columns → ℕ → Result (List ℤ)
 Whole c =
     let a = c .before .before .before .before .before .before .args in
-    columnOf (a .alone) (ruleOf (a .c)) (lists narrow (now (a .left)) asWhole) (lists narrow (now (a .right)) asWhole)
+    columnOf (a .alone) eqZ (ruleOf (a .c)) (lists narrow (now (a .left)) asWhole) (lists narrow (now (a .right)) asWhole)
 
 -- how the loop is left
 Ended : tie.Left-columns Inv-columns μ-columns → Type 0
@@ -108,7 +109,7 @@ ended c =
       inl (w .3 ∙ o .inv .4, omega (arith, w .0 .left), rw (w .1, w .2) (o .inv .5)),
     ))
     (λ w.
-    let g = columnOf (a .alone) (ruleOf (a .c)) (lists narrow (now (a .left)) asWhole) (lists narrow (now (a .right)) asWhole) (o .j) in
+    let g = columnOf (a .alone) eqZ (ruleOf (a .c)) (lists narrow (now (a .left)) asWhole) (lists narrow (now (a .right)) asWhole) (o .j) in
     let numbers = w .7 .last .1 .1 .1 .1 .0 in
     let values = w .7 .last .1 .1 .1 .1 .1 .0 in
     let e = subst (λ (p : Put). Adds p g (o .j) (o .t) (o .numbers) (o .values) numbers values) (w .13 .given .1) (w .7 .ensures g (w .2 .ensures)) in

@@ -6,6 +6,7 @@ use lib.IntN.{ℤ}
 use denote.Ref.{now}
 use borrow.Author.Needs.{needs}
 use Rattle.numbers.specs.Result.{Result}
+use Rattle.numbers.specs.Kind.{eqZ}
 use Rattle.base.specs.Form.{narrow, listCount}
 use Rattle.base.specs.Decode.{asWhole, lists}
 use Rattle.writer.specs.Written.{inWriting}
@@ -35,7 +36,7 @@ returns c =
     let left = now (a .left) in
     let ls = lists narrow left asWhole in
     let size = n .spread .ensures ∙ ap (spreadOf (a .columns)) (n .before .sizes-at .ensures .lists ∙ sym (lists-length narrow left asWhole)) in
-    let e = mapped-is (ruleOf (a .c)) (a .columns) ls ls (n .spread .result) size in
+    let e = mapped-is eqZ (ruleOf (a .c)) (a .columns) ls ls (n .spread .result) size in
     (d .derive .ensures .0 ∙ ap (λ (g : Result (List (List ℤ))). inWriting narrow (limited (narrow .categoryLimit) g)) e, d .derive .ensures .1)
 
 pub lists-alone-spec : {M : Type 1} → statement M

@@ -7,6 +7,7 @@ use lib.IntN.{ℤ}
 use denote.Ref.{now}
 use borrow.Author.Needs.{needs}
 use Rattle.numbers.specs.Result.{Result}
+use Rattle.numbers.specs.Kind.{eqZ}
 use Rattle.base.specs.Form.{narrow, listCount}
 use Rattle.base.specs.Decode.{asWhole, lists}
 use Rattle.writer.specs.Written.{inWriting}
@@ -49,7 +50,7 @@ returns c =
     let left = now (a .left) in
     let right = now (a .right) in
     let sizes = ap₂ (λ (l r : ℕ). lesserOf (spreadOf (a .columns) l) (spreadOf (a .columns) r)) (sym (lists-length narrow left asWhole)) (sym (lists-length narrow right asWhole)) in
-    let e = combined-is (ruleOf (a .c)) (a .columns) (lists narrow left asWhole) (lists narrow right asWhole) (n .lesser .result) (counted n ∙ sizes) in
+    let e = combined-is eqZ (ruleOf (a .c)) (a .columns) (lists narrow left asWhole) (lists narrow right asWhole) (n .lesser .result) (counted n ∙ sizes) in
     (d .derive .ensures .0 ∙ ap (λ (g : Result (List (List ℤ))). inWriting narrow (limited (narrow .categoryLimit) g)) e, d .derive .ensures .1)
 
 pub lists-pair-spec : {M : Type 1} → statement M

@@ -31,7 +31,7 @@ Inv-loop c left l right r store₀ hints₀ code₀ over₀ n₀ i a j₀ store 
     (j ≤ r)
     × (length store ≡ length store₀)
     × (code ≡ 0)
-    × Storing over n store (inRow (ruleOf c) (toZ w64 a) (take l left) (take r right) i j) (product (ruleOf c) (take l left) (take r right))
+    × Storing over n store (inRow eqZ (ruleOf c) (toZ w64 a) (take l left) (take r right) i j) (product eqZ (ruleOf c) (take l left) (take r right))
     × Hinting hints (take n store)
 
 abbrev μ-loop : tie.MeasureT-loop
@@ -42,7 +42,7 @@ Inv-pairs c left l right r store₀ hints₀ code₀ over₀ n₀ i₀ store hin
     (i ≤ l)
     × (length store ≡ length store₀)
     × (code ≡ 0)
-    × Storing over n store (inPairs (ruleOf c) (take l left) (take r right) i) (product (ruleOf c) (take l left) (take r right))
+    × Storing over n store (inPairs eqZ (ruleOf c) (take l left) (take r right) i) (product eqZ (ruleOf c) (take l left) (take r right))
     × Hinting hints (take n store)
 
 abbrev μ-pairs : tie.MeasureT-pairs
@@ -53,7 +53,7 @@ pairs-holds c =
     let a = c .args in
     let us = take (a .l) (now (a .left)) in
     let bs = take (a .r) (now (a .right)) in
-    (search needs, refl, refl, storing-start (now (a .store)) (inPairs (ruleOf (a .c)) us bs 0) (product-is (ruleOf (a .c)) us bs), hinting-none _ refl)
+    (search needs, refl, refl, storing-start (now (a .store)) (inPairs eqZ (ruleOf (a .c)) us bs 0) (product-is eqZ (ruleOf (a .c)) us bs), hinting-none _ refl)
 
 loop-holds : tie.Need-loop-holds Inv-loop μ-loop Inv-pairs μ-pairs
 loop-holds c =
@@ -70,7 +70,7 @@ loop-holds c =
       search needs,
       refl,
       o .inv .2,
-      storing-same (o .inv .3) (inRow (ruleOf (a .c)) x us bs (o .i + 1) 0) (λ seen. row-start (ruleOf (a .c)) us bs (o .i) seen e next),
+      storing-same (o .inv .3) (inRow eqZ (ruleOf (a .c)) x us bs (o .i + 1) 0) (λ seen. row-start eqZ (ruleOf (a .c)) us bs (o .i) seen (pos 0) e next),
       o .inv .4,
     )
 
@@ -87,7 +87,7 @@ pairs-again c =
       search needs,
       l .inv .1 ∙ o .inv .1,
       l .inv .2,
-      storing-same (l .inv .3) (inPairs (ruleOf (a .c)) us bs (o .i + 1)) (λ seen. next-row (ruleOf (a .c)) x us bs (o .i + 1) (l .j) seen end),
+      storing-same (l .inv .3) (inPairs eqZ (ruleOf (a .c)) us bs (o .i + 1)) (λ seen. next-row eqZ (ruleOf (a .c)) x us bs (o .i + 1) (l .j) seen end),
       l .inv .4,
     )
 
@@ -109,7 +109,7 @@ Turned k =
     let x = toZ w64 (ofZ w64 (getD (now (a .left)) (o .i) (pos 0))) in
     let got = v .v .given .0 .0 in
     (toZ w64 (ofZ w64 got) ≡ got)
-    × ((seen : List ℤ) → inRow (ruleOf (a .c)) x us bs (o .i + 1) (l .j) seen ≡ inRow (ruleOf (a .c)) x us bs (o .i + 1) (l .j + 1) (noted eqZ seen got))
+    × ((seen : List ℤ) → inRow eqZ (ruleOf (a .c)) x us bs (o .i + 1) (l .j) seen ≡ inRow eqZ (ruleOf (a .c)) x us bs (o .i + 1) (l .j + 1) (noted eqZ seen got))
 
 turned : (k : tie.After-known-told Inv-loop μ-loop Inv-pairs μ-pairs) → Turned k
 unfolding Turned
@@ -131,7 +131,7 @@ turned k =
     let back : toZ w64 (ofZ w64 got) ≡ got = search needs in
     let e = pair (ruleOf (a .c)) x y right (a .r) (l .j) (cat .category .result) (t .loop-test .taken) read (cat .category .ensures) (ap fitting (v .v .given .1)) in
     let next : l .j < length bs = omega (arith, length-take-le (a .r) right (s .pre .1), t .loop-test .taken) in
-    (back, λ seen. next-pair (ruleOf (a .c)) x us bs (o .i + 1) (l .j) seen next e)
+    (back, λ seen. next-pair eqZ (ruleOf (a .c)) x us bs (o .i + 1) (l .j) seen (pos 0) next e)
 
 loop-again : tie.Need-loop-again Inv-loop μ-loop Inv-pairs μ-pairs
 unfolding Turned
@@ -173,7 +173,7 @@ loop-again-3 c =
     (search needs, n .note-hinted .kept .0 ∙ l .inv .1, l .inv .2, storing-noted (l .inv .3) _ (t .0) (t .1) (i .if1 .left) begins, hinting-at (l .n) (n .note-hinted .last .0) (m .m .given .1) (n .note-hinted .ensures .1))
 
 Whole : tie.Left-pairs Inv-loop μ-loop Inv-pairs μ-pairs → Result (List ℤ)
-Whole c = let a = c .before .before .args in product (ruleOf (a .c)) (take (a .l) (now (a .left))) (take (a .r) (now (a .right)))
+Whole c = let a = c .before .before .args in product eqZ (ruleOf (a .c)) (take (a .l) (now (a .left))) (take (a .r) (now (a .right)))
 
 -- how the loops are left
 Ended : tie.Left-pairs Inv-loop μ-loop Inv-pairs μ-pairs → Type 0
@@ -197,7 +197,7 @@ ended c =
     (λ w.
     let end : length us ≤ o .i = omega (arith, length-take-le (a .l) left (s .pre .0), w .0 .left) in (
       ap length (w .1) ∙ o .inv .1,
-      inl (w .2 ∙ o .inv .2, rw (w .1, w .3, w .4) (storing-same (o .inv .3) (λ seen. ok seen) (λ seen. all-end (ruleOf (a .c)) us bs (o .i) seen end))),
+      inl (w .2 ∙ o .inv .2, rw (w .1, w .3, w .4) (storing-same (o .inv .3) (λ seen. ok seen) (λ seen. all-end eqZ (ruleOf (a .c)) us bs (o .i) seen end))),
     ))
     (λ w.
     let l = w .2 in
@@ -207,7 +207,7 @@ ended c =
     let e = pair (ruleOf (a .c)) x y right (a .r) (l .j) (w .5 .result) (w .3 .taken) read (w .5 .ensures) (ap fitting (w .7 .given .1)) in
     let next : l .j < length bs = omega (arith, length-take-le (a .r) right (s .pre .1), w .3 .taken) in (
       ap length (w .8) ∙ l .inv .1 ∙ o .inv .1,
-      inr (w .9, storing-refused (l .inv .3) (λ seen. bad-pair (ruleOf (a .c)) x us bs (o .i + 1) (l .j) seen next e)),
+      inr (w .9, storing-refused (l .inv .3) (λ seen. bad-pair eqZ (ruleOf (a .c)) x us bs (o .i + 1) (l .j) seen (pos 0) next e)),
     ))
     (c .pairs-test .came)
 

@@ -9,6 +9,7 @@ use denote.Ref.{now}
 use borrow.Author.Needs.{needs}
 use Rattle.bytes.specs.declared.Put.{Put}
 use Rattle.numbers.specs.Result.{Result}
+use Rattle.numbers.specs.Kind.{eqZ}
 use Rattle.base.specs.Form.{narrow}
 use Rattle.base.specs.Decode.{asWhole, lists}
 use Rattle.writer.specs.Written.{inWriting, derivedIn}
@@ -82,12 +83,12 @@ returns c =
     let a = s .args in
     let ls = lists narrow (now (a .left)) asWhole in
     let ms = lists narrow (now (a .right)) asWhole in
-    let f = columnOf (a .alone) (ruleOf (a .c)) ls ms in
+    let f = columnOf (a .alone) eqZ (ruleOf (a .c)) ls ms in
     let numbers = add .add-column .last .1 .1 .1 .1 .0 in
     let values = add .add-column .last .1 .1 .1 .1 .1 .0 in
     let e = subst (λ (q : Put). Adds q (f 0) (l .j) (l .t) (l .numbers) (l .values) numbers values) (c .before .put2 .given .1) (add .add-column .ensures (f 0) (col .column .ensures)) in
     let bad = columns-refused (l .inv .3 (f 0) (col .column .ensures)) (t .loop-test .taken) (e .1) in
-    let one = column-one (a .alone) (ruleOf (a .c)) ls ms (lists-length narrow (now (a .left)) asWhole ∙ s .pre .0 .1) (lists-length narrow (now (a .right)) asWhole ∙ s .pre .0 .3) in
+    let one = column-one (a .alone) eqZ (ruleOf (a .c)) ls ms (lists-length narrow (now (a .left)) asWhole ∙ s .pre .0 .1) (lists-length narrow (now (a .right)) asWhole ∙ s .pre .0 .3) in
     (ap (λ (g : Result (List (List ℤ))). inWriting narrow (limited (narrow .categoryLimit) g)) (sym bad ∙ from-same (λ i. f 0) f (a .n) 0 one), tt)
 
 gather-requires : tie.Need-gather-requires Inv-loop μ-loop
@@ -104,8 +105,8 @@ returns-2 c =
     let a = s .args in
     let ls = lists narrow (now (a .left)) asWhole in
     let ms = lists narrow (now (a .right)) asWhole in
-    let f = columnOf (a .alone) (ruleOf (a .c)) ls ms in
-    let one = column-one (a .alone) (ruleOf (a .c)) ls ms (lists-length narrow (now (a .left)) asWhole ∙ s .pre .0 .1) (lists-length narrow (now (a .right)) asWhole ∙ s .pre .0 .3) in
+    let f = columnOf (a .alone) eqZ (ruleOf (a .c)) ls ms in
+    let one = column-one (a .alone) eqZ (ruleOf (a .c)) ls ms (lists-length narrow (now (a .left)) asWhole ∙ s .pre .0 .1) (lists-length narrow (now (a .right)) asWhole ∙ s .pre .0 .3) in
     let whole =
     ap (λ (r : Derived). derivedIn r (l .numbers) (l .values)) (c .gather .ensures .0)
     ∙ columns-done (l .inv .3 (f 0) (col .column .ensures)) (omega (arith, c .before .loop-test .left))
