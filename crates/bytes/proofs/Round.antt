@@ -1,4 +1,5 @@
 -- Reading what was written.
+--     leAt-cong       the number depends on its own bytes alone
 --     leAt-shift      the number does not depend on what lies before it
 --     leAt-leBytes    the bytes of a number read back
 --     number-back     the same, behind any bytes, of a number that the width holds
@@ -14,7 +15,7 @@ use Rattle.bytes.specs.Le.{leAt, leBytes}
 use Rattle.bytes.proofs.Widths.{low-byte}
 
 -- two lists that agree at n places from two starts have the same number there
-leAt-cong : (n at at′ : ℕ) (s s′ : List ℕ) → ((i : ℕ) → i < n → getD s (at + i) 0 ≡ getD s′ (at′ + i) 0) → leAt n at s ≡ leAt n at′ s′
+pub leAt-cong : (n at at′ : ℕ) (s s′ : List ℕ) → ((i : ℕ) → i < n → getD s (at + i) 0 ≡ getD s′ (at′ + i) 0) → leAt n at s ≡ leAt n at′ s′
 unfolding leAt
 leAt-cong zero at at′ s s′ same = refl
 leAt-cong (suc n) at at′ s s′ same =

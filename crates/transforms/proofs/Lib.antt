@@ -3,6 +3,7 @@ pub mod Passing
 pub mod Clear
 pub mod Never
 pub mod Numberless
+pub mod NodeBytes
 pub mod Unreached
 pub mod Delivered
 pub mod Sorted
