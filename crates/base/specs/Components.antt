@@ -1,9 +1,11 @@
--- The nine components by their numbers.
+-- The nine components by their numbers, and their three families.
 use mathlib.Core.Bool.{Bool, true, false, cond}
 use Prim.Native.Nat.{ℕ}
 use lib.Dec.{eqb}
 use Rattle.base.specs.declared.Component.{Component}
 use Rattle.base.specs.declared.Component.the-variants as C
+use Rattle.base.specs.declared.Family.{Family}
+use Rattle.base.specs.declared.Family.the-variants as Fam
 use Rattle.base.specs.declared.Numbered.{Numbered}
 use Rattle.base.specs.declared.Numbered.the-variants as N
 
@@ -32,14 +34,21 @@ componentOf k =
     (cond (eqb k 9) (N.Is C.Negative)
     N.Unlisted))))))))
 
+-- The families, the only table by them. Unary, 01: "Abs and Negative don't read the right sheet", "copy left but for nature". Pair: "Components 2 to 5 check
+-- in list order", and their fields are of both. Copy: "Modulo, Log and Power check 6, 7, 14, 15, 16, 11, ..", "6 to 8 copy left, but for nature, .."
+abbrev pub familyOf : Component → Family
+familyOf C.Abs = Fam.Unary
+familyOf C.Add = Fam.Pair
+familyOf C.Subtract = Fam.Pair
+familyOf C.Multiply = Fam.Pair
+familyOf C.Divide = Fam.Pair
+familyOf C.Modulo = Fam.Copy
+familyOf C.Log = Fam.Copy
+familyOf C.Power = Fam.Copy
+familyOf C.Negative = Fam.Unary
+
 -- 01: "Abs and Negative don't read the right sheet"
-abbrev pub isUnary : Component → Bool
-isUnary C.Abs = true
-isUnary C.Add = false
-isUnary C.Subtract = false
-isUnary C.Multiply = false
-isUnary C.Divide = false
-isUnary C.Modulo = false
-isUnary C.Log = false
-isUnary C.Power = false
-isUnary C.Negative = true
+abbrev pub isUnary : Family → Bool
+isUnary Fam.Unary = true
+isUnary Fam.Pair = false
+isUnary Fam.Copy = false

@@ -7,7 +7,7 @@ ghost use Rattle.bytes.specs.Wrote.{Wrote};
 ghost use Rattle.base.specs.Form.{narrow, place, nodeAt, lengthCalledFor};
 ghost use Rattle.base.specs.Decode.{asWhole, fieldsIn};
 ghost use Rattle.base.specs.Checks.{read};
-ghost use Rattle.base.specs.Components.{numberOf, componentOf, isUnary};
+ghost use Rattle.base.specs.Components.{numberOf, componentOf, familyOf, isUnary};
 ghost use Rattle.base.specs.Code.{boundAt, boundBytes, headFields, codeOf};
 ghost use Rattle.base.specs.Sized.{SizesIn};
 
@@ -71,6 +71,16 @@ pub enum Component {
     Negative,
 }
 
+// The components by the sheets that they read, the order of their checks and the fields that they derive.
+pub enum Family {
+    // Abs and Negative, which read left alone.
+    Unary,
+    // Add, Subtract, Multiply and Divide.
+    Pair,
+    // Modulo, Log and Power, which copy left but for a few fields.
+    Copy,
+}
+
 // What a number names: a component, or none.
 pub enum Numbered {
     Is(Component),
@@ -129,20 +139,32 @@ impl Component {
         }
     }
 
+    pub fn family(self) -> Family
+        ensures { λ r. ⌜ r ≡ familyOf self ⌝ }
+    {
+        match self {
+            Component::Abs => Family::Unary,
+            Component::Add => Family::Pair,
+            Component::Subtract => Family::Pair,
+            Component::Multiply => Family::Pair,
+            Component::Divide => Family::Pair,
+            Component::Modulo => Family::Copy,
+            Component::Log => Family::Copy,
+            Component::Power => Family::Copy,
+            Component::Negative => Family::Unary,
+        }
+    }
+}
+
+impl Family {
     // Abs and Negative do not read the right sheet.
     pub fn is_unary(self) -> bool
         ensures { λ r. ⌜ r ≡ isUnary self ⌝ }
     {
         match self {
-            Component::Abs => true,
-            Component::Add => false,
-            Component::Subtract => false,
-            Component::Multiply => false,
-            Component::Divide => false,
-            Component::Modulo => false,
-            Component::Log => false,
-            Component::Power => false,
-            Component::Negative => true,
+            Family::Unary => true,
+            Family::Pair => false,
+            Family::Copy => false,
         }
     }
 }

@@ -18,9 +18,10 @@ use Rattle.utilities.specs.Lists.{listFrom}
 use Rattle.base.specs.Form.{narrow}
 use Rattle.base.specs.Sheet.{Sheet, Nature, absent, wholeRange, floatRange, wholeLists, boolLists, floatLists}
 use Rattle.base.specs.Decode.{decode}
-use Rattle.base.specs.Components.{componentOf}
+use Rattle.base.specs.Components.{componentOf, familyOf}
 use Rattle.base.specs.declared.Component.{Component}
-use Rattle.base.specs.declared.Component.the-variants as C
+use Rattle.base.specs.declared.Family.{Family}
+use Rattle.base.specs.declared.Family.the-variants as Fam
 use Rattle.base.specs.declared.Numbered.{Numbered}
 use Rattle.base.proofs.Passed.{Passed}
 use Rattle.base.proofs.Permitted.{permitted, columns-within}
@@ -56,17 +57,11 @@ whole-fitting (floatLists ls) n h = h
 good-node : (z : ℤ) (s : Sheet) (rs : Results) → Good s rs → Good (withNode z s) rs
 good-node z s rs g = record { columns = g .columns; atLeastOne = g .atLeastOne; fits = g .fits; result = g .result }
 
-good-numbered : (c : Component) (k : ℕ) (s : Sheet) (xs ys : Results) → Good s (stepOf c s xs ys) → Good (numbered c k s) (stepOf c (numbered c k s) xs ys)
+good-numbered : (f : Family) (c : Component) (k : ℕ) (s : Sheet) (xs ys : Results) → Good s (stepOf c s xs ys) → Good (numbered f k s) (stepOf c (numbered f k s) xs ys)
 unfolding numbered
-good-numbered C.Abs k s xs ys g = g
-good-numbered C.Add k s xs ys g = good-node _ s _ g
-good-numbered C.Subtract k s xs ys g = good-node _ s _ g
-good-numbered C.Multiply k s xs ys g = good-node _ s _ g
-good-numbered C.Divide k s xs ys g = good-node _ s _ g
-good-numbered C.Modulo k s xs ys g = g
-good-numbered C.Log k s xs ys g = g
-good-numbered C.Power k s xs ys g = g
-good-numbered C.Negative k s xs ys g = g
+good-numbered Fam.Unary c k s xs ys g = g
+good-numbered Fam.Pair c k s xs ys g = good-node _ s _ g
+good-numbered Fam.Copy c k s xs ys g = g
 
 -- ---- all nodes, in order
 
@@ -162,7 +157,7 @@ module _ (p work after : List ℕ) (a : Accepted p work after) where
         let e : derive (narrow .categoryLimit) (d .component) l r ≡ ok (d .sheet) =
         ap₂ (λ (x y : Sheet). derive (narrow .categoryLimit) (d .component) x y) (sheet-after (leftOf p k)) (sheet-after (rightOf p k)) ∙ d .derived in
         let u = subst (λ (n : Numbered). Suits n l r) (d .listed) (h .components k b c) in
-        let s = good-numbered (d .component) k (d .sheet) xs ys (step-good (narrow .categoryLimit) (d .component) l r (d .sheet) xs ys e g f (h .operandColumns k b c) u) in
+        let s = good-numbered (familyOf (d .component)) (d .component) k (d .sheet) xs ys (step-good (narrow .categoryLimit) (d .component) l r (d .sheet) xs ys e g f (h .operandColumns k b c) u) in
         let is = sheet-after k ∙ d .is in
         subst
         (λ (n : Numbered). Good (sheetOf narrow p work after k) (listFrom (columnsOf (sheetOf narrow p work after k .fields)) 0 (λ j. exactOf n (columnOf xs j) (columnOf ys j))))

@@ -2,31 +2,34 @@
 --     derived-sound, numbered-sound    of operands that are `Held`
 --     sound-formed, sound-length       so that its bytes read back and have room
 -- Assumes nothing.
-use mathlib.Core.Path.{_≡_, refl}
+use mathlib.Core.Path.{refl}
 use mathlib.Core.Bool.{Bool, true, false, cond}
-use mathlib.Core.List.{List, [], _∷_}
+use mathlib.Core.List.{List}
 use mathlib.Core.Option.{Option, none, some}
 use Prim.Native.Nat.{ℕ, _+_, _*_, _^_, _≤_, _<_}
 use native.Mathlib.Omega.{arith}
 use lib.IntN.{ℤ, pos}
 use lib.ListN.{length}
 use lib.Signed.{ltZ}
-use Rattle.numbers.specs.Result.{ok, Check, check}
-use Rattle.base.specs.Form.{narrow, longest, floatType, intType, isRangeNature}
+use Rattle.numbers.specs.Result.{ok}
+use Rattle.base.specs.Form.{narrow, longest, isRangeNature}
 use Rattle.base.specs.Sheet.{Group, Fields, Sheet}
 use Rattle.base.specs.Encode.{encode, natureNumber, entryCount, valueCount}
+use Rattle.base.specs.Components.{familyOf}
 use Rattle.base.specs.declared.Component.{Component}
-use Rattle.base.specs.declared.Component.the-variants as C
-use Rattle.shape.specs.Shape.{columnsOf, columnsAbsent, widest, groupsOf, greaterZ, greaterOption, greaterPresent, rowsAgree, rowsOf}
-use Rattle.shape.specs.Orders.{unaryChecks, pairChecks, copyChecks, moduloChecks, logChecks, powerChecks, lastChecks, bothOf}
+use Rattle.base.specs.declared.Family.{Family}
+use Rattle.base.specs.declared.Family.the-variants as Fam
+use Rattle.shape.specs.Shape.{columnsOf, widest, groupsOf, greaterZ, greaterOption, greaterPresent, rowsAgree, rowsOf}
+use Rattle.shape.specs.Orders.{unaryChecks, pairChecks, copyChecks, lastChecks}
 use Rattle.shape.specs.Fields.{addsNullity, pairFields, copyFields, copySheet, numbered}
+use Rattle.shape.proofs.Orders.{copy-numbered}
 use Rattle.transforms.specs.Natures.{binaryNature, unaryNature}
-use Rattle.transforms.specs.Derive.{deriveUnary, derivePair, deriveCopy, derive}
+use Rattle.transforms.specs.Derive.{deriveUnary, derivePair, deriveCopy, deriveBy, derive}
 use Rattle.writer.specs.WellFormed.{Each, Present, Whole, FieldsFit, GroupFits, WellFormed}
 use Rattle.writer.proofs.Table.{sheet-length}
 use Rattle.writer.proofs.Natures.{arrays-length}
 use Rattle.plan.specs.Held.{Held}
-use Rattle.plan.proofs.Gives.{Gives, counted, counted-append, gives-then, gives-checked}
+use Rattle.plan.proofs.Gives.{Gives, all-counted, gives-then, gives-checked}
 use Rattle.plan.proofs.Made.{Made, binary-made, unary-made}
 
 -- ---- fields
@@ -124,12 +127,11 @@ pair-sound c l r p q =
       values = m .values;
     }))
 
-copy-sound : (c : Component) (bs : List Check) (l r : Sheet) → counted bs ≡ true → Held l → Held r → Gives Sound (deriveCopy (narrow .categoryLimit) c bs l r)
+copy-sound : (c : Component) (l r : Sheet) → Held l → Held r → Gives Sound (deriveCopy (narrow .categoryLimit) c l r)
 unfolding deriveCopy copyFields
-copy-sound c bs l r n p q =
+copy-sound c l r p q =
     let g = groups-held l r p q in
-    gives-checked Sound (copyChecks l r bs) _
-    (counted-append bs (check 11 (columnsAbsent (l .fields)) ∷ []) n refl)
+    gives-checked Sound (copyChecks c l r) _ (all-counted (copyChecks c l r) (copy-numbered l r c))
     (gives-then (Made (narrow .categoryLimit)) Sound (binaryNature (narrow .categoryLimit) c (l .fields .dataType) (columnsOf (l .fields)) (l .nature) (r .nature)) _
     (binary-made (narrow .categoryLimit) c (l .fields .dataType) (columnsOf (l .fields)) (p .columnsWithin) (l .nature) (r .nature) (p .entriesWithin) (p .nature) (q .nature))
     (λ k m. gives-checked Sound (lastChecks l r) (ok (copySheet l r k)) refl
@@ -165,28 +167,14 @@ unary-sound c l p =
       values = m .values;
     }))
 
--- a component's own checks
-two-ways : (s t : Bool) (xs ys zs : List Check) → counted xs ≡ true → counted ys ≡ true → counted zs ≡ true → counted (cond s xs (cond t ys zs)) ≡ true
-two-ways true t xs ys zs p q r = p
-two-ways false true xs ys zs p q r = q
-two-ways false false xs ys zs p q r = r
-
 pub derived-sound : (c : Component) (l r : Sheet) → Held l → Held r → Gives Sound (derive (narrow .categoryLimit) c l r)
 unfolding derive
-derived-sound C.Abs l r p q = unary-sound C.Abs l p
-derived-sound C.Add l r p q = pair-sound C.Add l r p q
-derived-sound C.Subtract l r p q = pair-sound C.Subtract l r p q
-derived-sound C.Multiply l r p q = pair-sound C.Multiply l r p q
-derived-sound C.Divide l r p q = pair-sound C.Divide l r p q
-derived-sound C.Modulo l r p q =
-    copy-sound C.Modulo (moduloChecks l r) l r
-    (two-ways (bothOf l r intType) (bothOf l r floatType) _ _ (check 14 true ∷ []) refl refl refl) p q
-derived-sound C.Log l r p q =
-    copy-sound C.Log (logChecks l r) l r refl p q
-derived-sound C.Power l r p q =
-    copy-sound C.Power (powerChecks l r) l r
-    (two-ways (bothOf l r intType) (bothOf l r floatType) _ [] (check 14 true ∷ []) refl refl refl) p q
-derived-sound C.Negative l r p q = unary-sound C.Negative l p
+derived-sound c l r p q = go (familyOf c)
+  where
+    go : (f : Family) → Gives Sound (deriveBy 128 c f l r)
+    go Fam.Unary = unary-sound c l p
+    go Fam.Pair = pair-sound c l r p q
+    go Fam.Copy = copy-sound c l r p q
 
 -- ---- with the call's node number
 
@@ -206,17 +194,11 @@ with-node s z w p =
       values = p .values;
     }
 
-pub numbered-sound : (c : Component) (node : ℕ) (s : Sheet) → node < 2 ^ 32 → Sound s → Sound (numbered c node s)
+pub numbered-sound : (f : Family) (node : ℕ) (s : Sheet) → node < 2 ^ 32 → Sound s → Sound (numbered f node s)
 unfolding numbered
-numbered-sound C.Abs node s h p = p
-numbered-sound C.Add node s h p = with-node s (pos node) (record { sfits = omega arith }) p
-numbered-sound C.Subtract node s h p = with-node s (pos node) (record { sfits = omega arith }) p
-numbered-sound C.Multiply node s h p = with-node s (pos node) (record { sfits = omega arith }) p
-numbered-sound C.Divide node s h p = with-node s (pos node) (record { sfits = omega arith }) p
-numbered-sound C.Modulo node s h p = p
-numbered-sound C.Log node s h p = p
-numbered-sound C.Power node s h p = p
-numbered-sound C.Negative node s h p = p
+numbered-sound Fam.Unary node s h p = p
+numbered-sound Fam.Pair node s h p = with-node s (pos node) (record { sfits = omega arith }) p
+numbered-sound Fam.Copy node s h p = p
 
 -- ---- its bytes
 

@@ -12,7 +12,7 @@ use lib.Dec.{T, eqb, ltb}
 use lib.ListN.{length}
 use borrow.Author.Tests.{eqb-true, eqb-false, ltb-true, ltb-false, not-false}
 use Rattle.base.specs.Checks.{holdsFrom}
-use Rattle.base.specs.Components.{componentOf, isUnary}
+use Rattle.base.specs.Components.{componentOf, familyOf, isUnary}
 use Rattle.base.specs.declared.Component.{Component}
 use Rattle.base.specs.declared.Numbered.{Numbered}
 use Rattle.base.specs.declared.Numbered.the-variants as N
@@ -32,7 +32,7 @@ module _ (p : List ℕ) (k : ℕ) {m : ℕ} (e : m ≡ componentNumber p k) wher
   unfolding stepPermitted
   permitted-unlisted u = sym (ap (λ (n : Numbered). stepPermitted p n k) (ap componentOf (sym e) ∙ u))
 
-  pub permitted-is : {c : Component} {l r : ℕ} {unary : Bool} → componentOf m ≡ N.Is c → l ≡ leftOf p k → r ≡ rightOf p k → unary ≡ isUnary c
+  pub permitted-is : {c : Component} {l r : ℕ} {unary : Bool} → componentOf m ≡ N.Is c → l ≡ leftOf p k → r ≡ rightOf p k → unary ≡ isUnary (familyOf c)
       → (ltb l k && ltb r k && (not unary || eqb l r)) ≡ permitted p k
   unfolding stepPermitted
   permitted-is {c} {l} {r} {unary} i el er eu =
@@ -49,7 +49,7 @@ permitted-earlier p N.Unlisted k e = absurd (subst T (sym e) tt)
 permitted-earlier p (N.Is c) k e =
     let a = ltb (leftOf p k) k in
     let b = ltb (rightOf p k) k in
-    let z = and-both a b (and-both (a && b) (not (isUnary c) || eqb (leftOf p k) (rightOf p k)) e .0) in
+    let z = and-both a b (and-both (a && b) (not (isUnary (familyOf c)) || eqb (leftOf p k) (rightOf p k)) e .0) in
     (ltb-true (leftOf p k) k (z .0), ltb-true (rightOf p k) k (z .1))
 
 -- ---- a plan that passed 1

@@ -1,13 +1,15 @@
 -- What an answer gives: a value that is so and so, or a refusal by a number of 01's, which is never 0. Assumes nothing.
 use mathlib.Core.Path.{_≡_, refl}
 use mathlib.Core.Bool.{Bool, true, false, cond, _&&_}
-use mathlib.Core.List.{List, [], _∷_, _++_}
+use mathlib.Core.List.{List, [], _∷_}
 use Prim.Native.Nat.{_<_}
+use native.Mathlib.Omega.{arith}
 use lib.Dec.{ltb}
-use borrow.Author.Tests.{ltb-true}
+use borrow.Author.Tests.{eqb-false, ltb-true, lt-ltb}
 use Rattle.numbers.specs.Result.{Result, ok, refused, andThen, Check, checked}
 use Rattle.base.proofs.Flags.{and-both}
 use Rattle.utilities.specs.Columns.{each, eachPair}
+use Rattle.shape.proofs.Refusals.{Numbered, head-numbered, tail-numbered}
 use Rattle.writer.specs.WellFormed.{Each}
 
 abbrev pub Gives : {X : Type 0} → (X → Type 0) → Result X → Type 0
@@ -33,9 +35,11 @@ abbrev pub counted : List Check → Bool
 counted [] = true
 counted (c ∷ cs) = ltb 0 (c .number) && counted cs
 
-pub counted-append : (cs ds : List Check) → counted cs ≡ true → counted ds ≡ true → counted (cs ++ ds) ≡ true
-counted-append [] ds e f = f
-counted-append (c ∷ cs) ds e f = let b = and-both (ltb 0 (c .number)) (counted cs) e in rw (b .0, counted-append cs ds (b .1) f)
+pub all-counted : (cs : List Check) → Numbered cs → counted cs ≡ true
+all-counted [] z = refl
+all-counted (c ∷ cs) z =
+    let some = eqb-false (c .number) 0 (head-numbered c cs z) in
+    rw (lt-ltb 0 (c .number) (omega (arith, some)), all-counted cs (tail-numbered c cs z))
 
 pub gives-checked : {X : Type 0} (P : X → Type 0) (cs : List Check) (rest : Result X) → counted cs ≡ true → Gives P rest → Gives P (checked cs rest)
 unfolding checked

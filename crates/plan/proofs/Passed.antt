@@ -19,9 +19,10 @@ use Rattle.utilities.proofs.Built.{every-at}
 use Rattle.base.specs.Bounds.{everyEntry, lowersPresent, uppersPresent, lowersPositive, lowersNonNegative}
 use Rattle.base.specs.Form.{floatType, intType}
 use Rattle.base.specs.Sheet.{Sheet, Nature, absent, wholeRange, floatRange, wholeLists, boolLists, floatLists, isWholeRange}
+use Rattle.base.specs.declared.Component.{Component}
 use Rattle.base.proofs.Flags.{and-both}
 use Rattle.ends.specs.Ends.{spanOf}
-use Rattle.shape.specs.Orders.{operandChecks, bothOf, moduloChecks, logChecks, powerChecks, copyChecks}
+use Rattle.shape.specs.Orders.{operandChecks, bothOf, moduloChecks, logChecks, powerChecks, boundChecks, copyChecks}
 use Rattle.shape.specs.Shape.{columnsAbsent}
 use Rattle.plan.specs.Demand.{entryFor, OneOrPerColumn}
 use Rattle.plan.specs.Asks.{LowerAboveZero, LowerNotNegative}
@@ -31,11 +32,12 @@ use Rattle.plan.proofs.Columns.{entry-full, entry-one}
 use Rattle.plan.proofs.Nodes.{Reaches}
 
 -- the checks between those of the operands and 11
-pub bounds-passed : {X : Type 0} {x : X} (l r : Sheet) (bs : List Check) (rest : Result X)
-    → checked (copyChecks l r bs) rest ≡ ok x → checked bs (ok x) ≡ ok x
-bounds-passed l r bs rest e =
-    checked-before (check 11 (columnsAbsent (l .fields)) ∷ []) rest bs
-    (checked-after (bs ++ (check 11 (columnsAbsent (l .fields)) ∷ [])) rest (operandChecks (l .fields) ++ operandChecks (r .fields)) e)
+pub bounds-passed : {X : Type 0} {x : X} (c : Component) (l r : Sheet) (rest : Result X)
+    → checked (copyChecks c l r) rest ≡ ok x → checked (boundChecks c l r) (ok x) ≡ ok x
+bounds-passed c l r rest e =
+    let columns = check 11 (columnsAbsent (l .fields)) ∷ [] in
+    checked-before columns rest (boundChecks c l r)
+    (checked-after (boundChecks c l r ++ columns) rest (operandChecks (l .fields) ++ operandChecks (r .fields)) e)
 
 -- the second of two checks
 second : {X : Type 0} {x : X} (c : Check) (k : ℕ) (b : Bool) → checked (c ∷ check k (not b) ∷ []) (ok x) ≡ ok x → b ≡ true

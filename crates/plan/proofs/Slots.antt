@@ -22,14 +22,15 @@ use Rattle.base.specs.Decode.{decode}
 use Rattle.base.specs.Encode.{encode}
 use Rattle.base.specs.Checks.{read, sheetChecks}
 use Rattle.base.specs.Code.{codeOf}
-use Rattle.base.specs.Components.{componentOf, isUnary}
+use Rattle.base.specs.Components.{componentOf, familyOf, isUnary}
 use Rattle.base.specs.declared.Component.{Component}
-use Rattle.base.specs.declared.Component.the-variants as C
+use Rattle.base.specs.declared.Family.{Family}
+use Rattle.base.specs.declared.Family.the-variants as Fam
 use Rattle.base.specs.declared.Numbered.{Numbered}
 use Rattle.base.specs.declared.Numbered.the-variants as N
 use Rattle.base.proofs.Passed.{Passed, passed-all}
 use Rattle.shape.specs.Fields.{numbered}
-use Rattle.transforms.specs.Derive.{derive}
+use Rattle.transforms.specs.Derive.{deriveBy, derive}
 use Rattle.transforms.specs.Single.{stepSheet, step, outcome, delivery, singleOf}
 use Rattle.writer.proofs.Back.{narrow-laid, sheet-back, sheet-bytes-back}
 use Rattle.plan.specs.Form.{componentNumber, leftOf, rightOf}
@@ -47,17 +48,14 @@ read-gives s =
     (λ x e h. (passed-all narrow s (ap codeOf e), h))
 
 -- Abs and Negative read the left alone
-unary-any : (c : Component) (n : ℕ) (l r : Sheet) → isUnary c ≡ true → derive n c l l ≡ derive n c l r
+unary-any : (c : Component) (n : ℕ) (l r : Sheet) → isUnary (familyOf c) ≡ true → derive n c l l ≡ derive n c l r
 unfolding derive
-unary-any C.Abs n l r e = refl
-unary-any C.Add n l r e = absurd (subst T (sym e) tt)
-unary-any C.Subtract n l r e = absurd (subst T (sym e) tt)
-unary-any C.Multiply n l r e = absurd (subst T (sym e) tt)
-unary-any C.Divide n l r e = absurd (subst T (sym e) tt)
-unary-any C.Modulo n l r e = absurd (subst T (sym e) tt)
-unary-any C.Log n l r e = absurd (subst T (sym e) tt)
-unary-any C.Power n l r e = absurd (subst T (sym e) tt)
-unary-any C.Negative n l r e = refl
+unary-any c n l r = go (familyOf c)
+  where
+    go : (f : Family) → isUnary f ≡ true → deriveBy n c f l l ≡ deriveBy n c f l r
+    go Fam.Unary e = refl
+    go Fam.Pair e = absurd (subst T (sym e) tt)
+    go Fam.Copy e = absurd (subst T (sym e) tt)
 
 -- ---- the bytes that a component derives of its operands' bytes
 
@@ -69,18 +67,18 @@ module _ (c : Component) (left right : List ℕ) where
   record Written (k : ℕ) (vs : List ℕ) : Type 0 where
     sheet : Sheet
     derived : derive (narrow .categoryLimit) c (decode narrow left) (decode narrow right) ≡ ok sheet
-    sound : Sound (numbered c k sheet)
-    bytes : vs ≡ encode narrow (numbered c k sheet)
+    sound : Sound (numbered (familyOf c) k sheet)
+    bytes : vs ≡ encode narrow (numbered (familyOf c) k sheet)
 
   module _ (p : Held (decode narrow left)) (q : Held (decode narrow right)) where
     -- behind the left sheet, l
     abbrev behind : Sheet → Result Sheet
-    behind l = cond (isUnary c) (derive (narrow .categoryLimit) c l l) (andThen (read narrow right) (λ r. derive (narrow .categoryLimit) c l r))
+    behind l = cond (isUnary (familyOf c)) (derive (narrow .categoryLimit) c l l) (andThen (read narrow right) (λ r. derive (narrow .categoryLimit) c l r))
 
     behind-gives : Gives Deriving (behind (decode narrow left))
-    behind-gives = go (isUnary c) refl
+    behind-gives = go (isUnary (familyOf c)) refl
       where
-        go : (t : Bool) → isUnary c ≡ t
+        go : (t : Bool) → isUnary (familyOf c) ≡ t
             → Gives Deriving (cond t (derive (narrow .categoryLimit) c (decode narrow left) (decode narrow left)) (andThen (read narrow right) (λ r. derive (narrow .categoryLimit) c (decode narrow left) r)))
         go true e =
             let l = decode narrow left in
@@ -103,7 +101,7 @@ module _ (c : Component) (left right : List ℕ) where
     unfolding step
     step-gives k h =
         gives-then Deriving (Written k) (stepSheet narrow c left right) _ sheet-gives
-        (λ s d. record { sheet = s; derived = d .0; sound = numbered-sound c k s h (d .1); bytes = refl })
+        (λ s d. record { sheet = s; derived = d .0; sound = numbered-sound (familyOf c) k s h (d .1); bytes = refl })
 
 -- ---- what a call delivers
 
@@ -170,7 +168,7 @@ pub record Derives (p : List ℕ) (k : ℕ) (x y : List ℕ) : Type 0 where
   pub listed : componentOf (componentNumber p k) ≡ N.Is component
   pub sheet : Sheet
   pub derived : derive (narrow .categoryLimit) component (sheetAt (leftOf p k) x) (sheetAt (rightOf p k) x) ≡ ok sheet
-  pub is : sheetAt k y ≡ numbered component k sheet
+  pub is : sheetAt k y ≡ numbered (familyOf component) k sheet
 
 pub record Stepped (p : List ℕ) (k : ℕ) (work after : List ℕ) : Type 0 where
   pub derives : Derives p k work after
@@ -198,9 +196,9 @@ module _ (p : List ℕ) (k : ℕ) (work : List ℕ) (small : k < 2 ^ 32) (room :
       let w = d .made in
       let rest = drop (length (d .bytes)) out in
       let n = length-take-le (slotAt narrow k) work room in
-      let is : bytes ≡ encode narrow (numbered c k (w .sheet)) ++ rest = d .stand ∙ ap (λ (v : List ℕ). v ++ rest) (w .bytes) in
-      let here : sheetAt k (front ++ bytes) ≡ numbered c k (w .sheet) =
-      ap (λ (b : List ℕ). sheetAt k (front ++ b)) is ∙ sheet-stands k (numbered c k (w .sheet)) front rest (w .sound) n in
+      let is : bytes ≡ encode narrow (numbered (familyOf c) k (w .sheet)) ++ rest = d .stand ∙ ap (λ (v : List ℕ). v ++ rest) (w .bytes) in
+      let here : sheetAt k (front ++ bytes) ≡ numbered (familyOf c) k (w .sheet) =
+      ap (λ (b : List ℕ). sheetAt k (front ++ b)) is ∙ sheet-stands k (numbered (familyOf c) k (w .sheet)) front rest (w .sound) n in
       let long = ap length (d .stand) ∙ length-append (d .bytes) rest in
       record {
         derives = record { component = c; listed = e; sheet = w .sheet; derived = w .derived; is = here };

@@ -1,6 +1,5 @@
 -- One step on sheets: good operands of a step that is accepted make a good node. Assumes nothing.
 use mathlib.Core.Path.{_≡_, refl, sym, ap, subst, _∙_}
-use mathlib.Core.List.{List}
 use mathlib.Core.Logic.{_⊎_, inl, inr, ⊎-elim}
 use mathlib.Core.Option.{Option, some}
 use Prim.Native.Nat.{ℕ, max, _≤_, _<_}
@@ -8,14 +7,14 @@ use native.Mathlib.Omega.{arith}
 use lib.IntN.{ℤ}
 use lib.ListN.{length}
 use Rattle.numbers.specs.Kind.{Span}
-use Rattle.numbers.specs.Result.{ok, Check, checked}
+use Rattle.numbers.specs.Result.{ok, checked}
 use Rattle.numbers.proofs.Results.{then-ok-inv}
 use Rattle.base.specs.Sheet.{Sheet}
 use Rattle.base.specs.declared.Component.{Component}
 use Rattle.base.specs.declared.Component.the-variants as C
 use Rattle.base.specs.declared.Numbered.the-variants as N
 use Rattle.shape.specs.Shape.{columnsOf, widest}
-use Rattle.shape.specs.Orders.{unaryChecks, pairChecks, copyChecks, moduloChecks, logChecks, powerChecks, lastChecks}
+use Rattle.shape.specs.Orders.{unaryChecks, pairChecks, boundChecks, copyChecks, lastChecks}
 use Rattle.shape.specs.Fields.{pairFields, copyFields, pairSheet, copySheet, unarySheet}
 use Rattle.transforms.specs.Natures.{binaryNature, unaryNature}
 use Rattle.transforms.specs.Derive.{deriveUnary, derivePair, deriveCopy, derive}
@@ -98,12 +97,12 @@ module _ (limit : ℕ) (c : Component) (l r s : Sheet) (xs ys : Results) (g : Go
   left-spread : Spread (l .nature) (columnsOf (l .fields))
   left-spread = serves-spread (l .nature) (inl (sym (columns-are g))) (g .fits)
 
-  copy-good : (bs : List Check) → deriveCopy limit c bs l r ≡ ok s → Spread (r .nature) (columnsOf (l .fields))
+  copy-good : deriveCopy limit c l r ≡ ok s → Spread (r .nature) (columnsOf (l .fields))
       → ((j : ℕ) → Reaches (length ys) j → Admitted c (l .nature) (r .nature) j) → Good s (stepOf c s xs ys)
   unfolding deriveCopy copyFields
-  copy-good bs e p k =
+  copy-good e p k =
       let n = binaryNature limit c (l .fields .dataType) (columnsOf (l .fields)) (l .nature) (r .nature) in
-      let t = then-ok-inv n _ (checked-rest (copyChecks l r bs) _ e) in
+      let t = then-ok-inv n _ (checked-rest (copyChecks c l r) _ e) in
       subst (λ (s : Sheet). Good s (stepOf c s xs ys)) (ok-same (checked-rest (lastChecks l r) (ok (copySheet l r (t .value))) (t .after)))
       (good-step c l r (copySheet l r (t .value)) xs ys (columnsOf (l .fields)) g h left-columns left-one
       (binary-derived limit c (l .fields .dataType) (columnsOf (l .fields)) (l .nature) (r .nature) left-spread p (t .is))
@@ -120,9 +119,9 @@ module _ (limit : ℕ) (c : Component) (l r s : Sheet) (xs ys : Results) (g : Go
       reach-left reach-right (λ j i. k j))
 
 -- the checks of a component's own, passed
-copy-passed : (limit : ℕ) (c : Component) (l r s : Sheet) (bs : List Check) → deriveCopy limit c bs l r ≡ ok s → checked bs (ok s) ≡ ok s
+copy-passed : (limit : ℕ) (c : Component) (l r s : Sheet) → deriveCopy limit c l r ≡ ok s → checked (boundChecks c l r) (ok s) ≡ ok s
 unfolding deriveCopy
-copy-passed limit c l r s bs e = bounds-passed l r bs _ e
+copy-passed limit c l r s e = bounds-passed c l r _ e
 
 -- demand 3's premise on the divisor, at any column that the divisor's node reaches
 divisor-off : (r : Sheet) (ys : Results) → Good r ys → ((j : ℕ) → j < columnsOf (r .fields) → OffZero (r .nature) j)
@@ -144,15 +143,15 @@ step-good limit C.Subtract l r s xs ys e g h w u = pair-good limit C.Subtract l 
 step-good limit C.Multiply l r s xs ys e g h w u = pair-good limit C.Multiply l r s xs ys g h w e (λ j i. tt)
 step-good limit C.Divide l r s xs ys e g h w u = pair-good limit C.Divide l r s xs ys g h w e (divisor-off r ys h u)
 step-good limit C.Modulo l r s xs ys e g h w u =
-    let p = copy-passed limit C.Modulo l r s (moduloChecks l r) e in
-    copy-good limit C.Modulo l r s xs ys g h w (moduloChecks l r) e
+    let p = copy-passed limit C.Modulo l r s e in
+    copy-good limit C.Modulo l r s xs ys g h w e
     (modulo-spread l r (length ys) (h .fits) (columnsOf (l .fields)) p)
     (λ j i. modulo-says l r (length ys) (h .fits) j i p)
 step-good limit C.Log l r s xs ys e g h w u =
-    absurd (log-never l r (length ys) (h .fits) (length xs) (g .fits) (copy-passed limit C.Log l r s (logChecks l r) e))
+    absurd (log-never l r (length ys) (h .fits) (length xs) (g .fits) (copy-passed limit C.Log l r s e))
 step-good limit C.Power l r s xs ys e g h w u =
-    let p = copy-passed limit C.Power l r s (powerChecks l r) e in
-    copy-good limit C.Power l r s xs ys g h w (powerChecks l r) e
+    let p = copy-passed limit C.Power l r s e in
+    copy-good limit C.Power l r s xs ys g h w e
     (power-spread l r (length ys) (h .fits) (u .0) (u .1) (columnsOf (l .fields)) p)
     (λ j i. power-says l r (length ys) (h .fits) (u .0) (u .1) j i p)
 step-good limit C.Negative l r s xs ys e g h w u = unary-good limit C.Negative l r s xs ys g h w e (λ o. tt) (λ a b. refl) (λ j. tt)

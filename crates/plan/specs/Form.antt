@@ -6,7 +6,7 @@ use lib.ListN.{length}
 use lib.Dec.{eqb, ltb}
 use Rattle.bytes.specs.Le.{leAt}
 use Rattle.base.specs.Checks.{holdsFrom}
-use Rattle.base.specs.Components.{componentOf, isUnary}
+use Rattle.base.specs.Components.{componentOf, familyOf, isUnary}
 use Rattle.base.specs.declared.Numbered.{Numbered}
 use Rattle.base.specs.declared.Numbered.the-variants as N
 
@@ -49,7 +49,7 @@ module _ (p : List ℕ) where
   -- 01: "Operands are earlier nodes, counted from 0; for 1 and 9 both are the same"
   unfoldable pub stepPermitted : Numbered → ℕ → Bool
   stepPermitted N.Unlisted k = false
-  stepPermitted (N.Is c) k = ltb (leftOf k) k && ltb (rightOf k) k && (not (isUnary c) || eqb (leftOf k) (rightOf k))
+  stepPermitted (N.Is c) k = ltb (leftOf k) k && ltb (rightOf k) k && (not (isUnary (familyOf c)) || eqb (leftOf k) (rightOf k))
 
   -- 1: "The plan is malformed"; "The length is exact; departures are 1"
   unfoldable pub planFails : Bool

@@ -89,7 +89,7 @@ fn step_permitted(plan: &[u8], k: usize) -> bool
     };
     let left = left_operand(plan, k);
     let right = right_operand(plan, k);
-    (left < k) & (right < k) & (!c.is_unary() | (left == right))
+    (left < k) & (right < k) & (!c.family().is_unary() | (left == right))
 }
 
 fn steps_permitted(plan: &[u8]) -> bool

@@ -12,8 +12,8 @@ use Rattle.base.specs.Bounds.{lowersPresent, wholeLowersPresent, lowersPositive
 use Rattle.base.specs.declared.Component.{Component}
 use Rattle.base.specs.declared.Component.the-variants as C
 use Rattle.shape.specs.Shape.{bothPrivate, sameGroups, columnsAbsent}
-use Rattle.shape.specs.Orders.{operandChecks, unaryChecks, groupsClash, pairChecks, bothOf, moduloChecks, powerChecks, copyChecks, lastChecks}
-use Rattle.shape.specs.Parts.{first, next, operandsCode, only, shapeChecks, boundChecksOf}
+use Rattle.shape.specs.Orders.{operandChecks, unaryChecks, groupsClash, pairChecks, bothOf, moduloChecks, powerChecks, boundChecks, copyChecks, lastChecks}
+use Rattle.shape.specs.Parts.{first, next, operandsCode, only, shapeChecks}
 use Rattle.shape.proofs.Refusals.{Numbered, first-append}
 
 -- ---- no check has the number 0
@@ -26,10 +26,11 @@ pub unary-numbered : (x : Fields) → Numbered (unaryChecks x)
 unfolding every
 unary-numbered x = record { all = refl }
 
-choice-numbered : (a b : Bool) {xs ys zs : List Check} → Numbered xs → Numbered ys → Numbered zs → Numbered (cond a xs (cond b ys zs))
-choice-numbered true b x y z = x
-choice-numbered false true x y z = y
-choice-numbered false false x y z = z
+-- Modulo and Power choose by the types
+pub chosen : (P : List Check → Type 0) (a b : Bool) {xs ys zs : List Check} → P xs → P ys → P zs → P (cond a xs (cond b ys zs))
+chosen P true b x y z = x
+chosen P false true x y z = y
+chosen P false false x y z = z
 
 join-numbered : (xs ys : List Check) → Numbered xs → Numbered ys → Numbered (xs ++ ys)
 unfolding every
@@ -49,26 +50,30 @@ module _ (l r : Sheet) where
   unfolding every
   last-numbered = record { all = refl }
 
-  pub bounds-numbered : (c : Component) → Numbered (boundChecksOf c l r)
+  -- they are 14 to 16, whatever is said of numbers
+  pub bounds-every : (p : ℕ → Bool) → p 14 ≡ true → p 15 ≡ true → p 16 ≡ true → (c : Component) → every (λ k. p (k .number)) (boundChecks c l r) ≡ true
   unfolding every
-  bounds-numbered C.Abs = record { all = refl }
-  bounds-numbered C.Add = record { all = refl }
-  bounds-numbered C.Subtract = record { all = refl }
-  bounds-numbered C.Multiply = record { all = refl }
-  bounds-numbered C.Divide = record { all = refl }
-  bounds-numbered C.Modulo = choice-numbered (bothOf l r intType) (bothOf l r floatType) (record { all = refl }) (record { all = refl }) (record { all = refl })
-  bounds-numbered C.Log = record { all = refl }
-  bounds-numbered C.Power = choice-numbered (bothOf l r intType) (bothOf l r floatType) (record { all = refl }) (record { all = refl }) (record { all = refl })
-  bounds-numbered C.Negative = record { all = refl }
+  bounds-every p x y z C.Abs = refl
+  bounds-every p x y z C.Add = refl
+  bounds-every p x y z C.Subtract = refl
+  bounds-every p x y z C.Multiply = refl
+  bounds-every p x y z C.Divide = refl
+  bounds-every p x y z C.Modulo = chosen (λ cs. every (λ k. p (k .number)) cs ≡ true) (bothOf l r intType) (bothOf l r floatType) (rw (y, z)) (rw (y, z)) (rw x)
+  bounds-every p x y z C.Log = rw (x, y, z)
+  bounds-every p x y z C.Power = chosen (λ cs. every (λ k. p (k .number)) cs ≡ true) (bothOf l r intType) (bothOf l r floatType) (rw (y, z)) refl (rw x)
+  bounds-every p x y z C.Negative = refl
+
+  bounds-numbered : (c : Component) → Numbered (boundChecks c l r)
+  bounds-numbered c = record { all = bounds-every (λ k. not (eqb k 0)) refl refl refl c }
 
   columns-numbered : Numbered (check 11 (columnsAbsent (l .fields)) ∷ [])
   unfolding every
   columns-numbered = record { all = refl }
 
-  pub copy-numbered : (c : Component) → Numbered (copyChecks l r (boundChecksOf c l r))
+  pub copy-numbered : (c : Component) → Numbered (copyChecks c l r)
   copy-numbered c =
       let columns = check 11 (columnsAbsent (l .fields)) ∷ [] in
-      let bounds = boundChecksOf c l r in
+      let bounds = boundChecks c l r in
       join-numbered (operandChecks (l .fields)) (operandChecks (r .fields) ++ bounds ++ columns) (operand-numbered (l .fields))
       (join-numbered (operandChecks (r .fields)) (bounds ++ columns) (operand-numbered (r .fields))
       (join-numbered bounds columns (bounds-numbered c) columns-numbered))
@@ -99,11 +104,11 @@ module _ (l r : Sheet) {x y : Fields} (p : x ≡ l .fields) (q : y ≡ r .fields
 
   pub copy-is :
       (c : Component)
-      → operandsCode x y (next (firstFailing (boundChecksOf c l r)) (first 11 (columnsAbsent x) 0)) ≡ firstFailing (copyChecks l r (boundChecksOf c l r))
+      → operandsCode x y (next (firstFailing (boundChecks c l r)) (first 11 (columnsAbsent x) 0)) ≡ firstFailing (copyChecks c l r)
   unfolding firstFailing
   copy-is c =
       let columns = check 11 (columnsAbsent (l .fields)) ∷ [] in
-      let bounds = boundChecksOf c l r in
+      let bounds = boundChecks c l r in
       ap₂ (λ (x y : Fields). operandsCode x y (next (firstFailing bounds) (first 11 (columnsAbsent x) 0))) p q
       ∙ ap (operandsCode (l .fields) (r .fields)) (sym (first-append bounds columns (bounds-numbered l r c)))
       ∙ operands-first l r (bounds ++ columns)

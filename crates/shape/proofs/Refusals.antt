@@ -15,11 +15,11 @@ pub record Numbered (cs : List Check) : Type 0 where
   pub all : every (λ c. not (eqb (c .number) 0)) cs ≡ true
 
 module _ (c : Check) (cs : List Check) (z : Numbered (c ∷ cs)) where
-  head-numbered : eqb (c .number) 0 ≡ false
+  pub head-numbered : eqb (c .number) 0 ≡ false
   unfolding every
   head-numbered = not-true (eqb (c .number) 0) (both-hold (not (eqb (c .number) 0)) (every (λ c. not (eqb (c .number) 0)) cs) (z .all) .0)
 
-  tail-numbered : Numbered cs
+  pub tail-numbered : Numbered cs
   unfolding every
   tail-numbered = record { all = both-hold (not (eqb (c .number) 0)) (every (λ c. not (eqb (c .number) 0)) cs) (z .all) .1 }
 

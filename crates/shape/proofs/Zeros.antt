@@ -12,14 +12,12 @@ use Rattle.base.specs.Sheet.{Nature, absent, wholeRange, wholeLists, boolLists}
 use Rattle.base.specs.Decode.{asWhole, asFloat, asBits, listNumber, categoryAt, listAt, prepended, entries, lists, natureIn}
 use Rattle.base.specs.Bounds.{everyEntry}
 use Rattle.base.specs.Checks.{holdsFrom, bytesPermitted, valuesPermitted, groupsPermitted, numberPermitted, valuePermitted, countsPermitted, rangePermitted, listsPermitted, naturePermitted, fieldsFail}
-use Rattle.base.specs.declared.Component.{Component}
-use Rattle.base.specs.declared.Component.the-variants as C
 use Rattle.base.proofs.Natures.{nature-float-range, nature-float-lists}
 use Rattle.base.proofs.Holding.{every-from}
 use Rattle.base.proofs.Flags.{and-both}
 use Rattle.shape.specs.declared.bounds.Ask.the-variants as A
-use Rattle.shape.specs.Fields.{spansZero, nanOrZero, mayMeetZero, addsNullity}
-use Rattle.shape.specs.Asked.{wholeAsked, floatAsked, valueApart, isDivide}
+use Rattle.shape.specs.Fields.{spansZero, nanOrZero, mayMeetZero}
+use Rattle.shape.specs.Asked.{wholeAsked, floatAsked, valueApart}
 
 -- ---- tests, number by number
 
@@ -170,15 +168,3 @@ module _ (F : Form) (s : List ℕ) where
       go false true c = refl
       go false false true = refl
       go false false false = refl
-
-pub adds-is : (c : Component) (k : Nature) → addsNullity c k ≡ cond (isDivide c) (mayMeetZero k) false
-unfolding addsNullity
-adds-is C.Abs k = refl
-adds-is C.Add k = refl
-adds-is C.Subtract k = refl
-adds-is C.Multiply k = refl
-adds-is C.Divide k = refl
-adds-is C.Modulo k = refl
-adds-is C.Log k = refl
-adds-is C.Power k = refl
-adds-is C.Negative k = refl

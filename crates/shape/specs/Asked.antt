@@ -9,8 +9,6 @@ use Rattle.numbers.specs.Kind.{Kind, Span, whole, float}
 use Rattle.base.specs.Form.{Form, groupCount, listCount, categoryCount}
 use Rattle.base.specs.Decode.{asWhole, asFloat, spanAt, categoryAt}
 use Rattle.base.specs.Bounds.{isPresent, positive, nonNegative, suitsAsBase}
-use Rattle.base.specs.declared.Component.{Component}
-use Rattle.base.specs.declared.Component.the-variants as C
 use Rattle.shape.specs.declared.bounds.Ask.{Ask}
 use Rattle.shape.specs.declared.bounds.Ask.the-variants as A
 use Rattle.shape.specs.Fields.{spansZero, nanOrZero}
@@ -56,14 +54,3 @@ module _ (F : Form) where
   -- float category i is neither NaN nor a zero
   abbrev pub valueApart : List ℕ → ℕ → Bool
   valueApart s i = not (nanOrZero (categoryAt F s (groupCount F s) (categoryCount F s) i))
-
-abbrev pub isDivide : Component → Bool
-isDivide C.Abs = false
-isDivide C.Add = false
-isDivide C.Subtract = false
-isDivide C.Multiply = false
-isDivide C.Divide = true
-isDivide C.Modulo = false
-isDivide C.Log = false
-isDivide C.Power = false
-isDivide C.Negative = false

@@ -10,6 +10,8 @@ use Rattle.utilities.specs.Lists.{any}
 use Rattle.base.specs.Sheet.{Nature, absent, wholeRange, floatRange, wholeLists, boolLists, floatLists, Fields, Sheet}
 use Rattle.base.specs.declared.Component.{Component}
 use Rattle.base.specs.declared.Component.the-variants as C
+use Rattle.base.specs.declared.Family.{Family}
+use Rattle.base.specs.declared.Family.the-variants as Fam
 use Rattle.shape.specs.Shape.{groupsOf, widest, rowsOf, greaterOption}
 
 -- 01: "a float range has a column with lower < 0 < upper, lower > 0 with no upper, upper < 0 with no lower, or neither end"
@@ -32,16 +34,19 @@ mayMeetZero (wholeLists ls) = false
 mayMeetZero (boolLists ls) = false
 mayMeetZero (floatLists ls) = any (λ l. any nanOrZero l) ls
 
+abbrev pub isDivide : Component → Bool
+isDivide C.Abs = false
+isDivide C.Add = false
+isDivide C.Subtract = false
+isDivide C.Multiply = false
+isDivide C.Divide = true
+isDivide C.Modulo = false
+isDivide C.Log = false
+isDivide C.Power = false
+isDivide C.Negative = false
+
 unfoldable pub addsNullity : Component → Nature → Bool
-addsNullity C.Abs k = false
-addsNullity C.Add k = false
-addsNullity C.Subtract k = false
-addsNullity C.Multiply k = false
-addsNullity C.Divide k = mayMeetZero k
-addsNullity C.Modulo k = false
-addsNullity C.Log k = false
-addsNullity C.Power k = false
-addsNullity C.Negative k = false
+addsNullity c k = isDivide c && mayMeetZero k
 
 -- 01: "2 to 5: nullity either; releasable and not empty both; c-stability, columns, dimensionality greater (absent least); aggregator absent; type,
 -- dataset, sample from left; .. ordered 1". `more` is what Divide adds to the nullity
@@ -93,13 +98,7 @@ abbrev pub withNode : ℤ → Sheet → Sheet
 withNode z s = record { fields = s .fields; node = z; groups = s .groups; nature = s .nature }
 
 -- 01: "node the call's" for 2 to 5; the others keep left's
-unfoldable pub numbered : Component → ℕ → Sheet → Sheet
-numbered C.Abs node s = s
-numbered C.Add node s = withNode (pos node) s
-numbered C.Subtract node s = withNode (pos node) s
-numbered C.Multiply node s = withNode (pos node) s
-numbered C.Divide node s = withNode (pos node) s
-numbered C.Modulo node s = s
-numbered C.Log node s = s
-numbered C.Power node s = s
-numbered C.Negative node s = s
+unfoldable pub numbered : Family → ℕ → Sheet → Sheet
+numbered Fam.Unary node s = s
+numbered Fam.Pair node s = withNode (pos node) s
+numbered Fam.Copy node s = s

@@ -1,4 +1,4 @@
--- The order of the checks, one list for each of the three groups of components. 01: "Checks 3 to 5 finish on left before right; so do 6 and 7, and 19 and 20".
+-- The order of the checks, one list for each family of components. 01: "Checks 3 to 5 finish on left before right; so do 6 and 7, and 19 and 20".
 use mathlib.Core.Bool.{Bool, true, false, cond, not, _&&_, _||_}
 use mathlib.Core.List.{List, [], _∷_, _++_}
 use mathlib.Core.Option.{Option, none, some}
@@ -11,6 +11,8 @@ use Rattle.numbers.specs.Kind.{oneFloat}
 use Rattle.base.specs.Form.{floatType, intType}
 use Rattle.base.specs.Sheet.{Fields, Sheet, isWholeRange}
 use Rattle.base.specs.Bounds.{lowersPresent, uppersPresent, wholeLowersPresent, lowersPositive, lowersNonNegative, allSuitAsBase}
+use Rattle.base.specs.declared.Component.{Component}
+use Rattle.base.specs.declared.Component.the-variants as C
 use Rattle.shape.specs.Shape.{bothPrivate, sameGroups, sameDataset, columnsAbsent, columnsClash, rowsClash}
 
 -- 6: "An operand that isn't releasable has an aggregator"
@@ -85,12 +87,24 @@ module _ (l r : Sheet) where
       (cond (bothOf floatType) []
       (check 14 true ∷ []))
 
-  -- 01: "Modulo, Log and Power check 6, 7, 14, 15, 16, 11, then 17 to 26, then 8"; for 11 "only left's is read"
-  abbrev pub copyChecks : List Check → List Check
-  copyChecks boundChecks = operandChecks (l .fields) ++ operandChecks (r .fields) ++ boundChecks ++ (check 11 (columnsAbsent (l .fields)) ∷ [])
-
   abbrev pub lastChecks : List Check
   lastChecks = check 8 groupsClash ∷ []
+
+-- 14 to 16 of the components that read bounds
+abbrev pub boundChecks : Component → Sheet → Sheet → List Check
+boundChecks C.Abs l r = []
+boundChecks C.Add l r = []
+boundChecks C.Subtract l r = []
+boundChecks C.Multiply l r = []
+boundChecks C.Divide l r = []
+boundChecks C.Modulo l r = moduloChecks l r
+boundChecks C.Log l r = logChecks l r
+boundChecks C.Power l r = powerChecks l r
+boundChecks C.Negative l r = []
+
+-- 01: "Modulo, Log and Power check 6, 7, 14, 15, 16, 11, then 17 to 26, then 8"; for 11 "only left's is read"
+abbrev pub copyChecks : Component → Sheet → Sheet → List Check
+copyChecks c l r = operandChecks (l .fields) ++ operandChecks (r .fields) ++ boundChecks c l r ++ (check 11 (columnsAbsent (l .fields)) ∷ [])
 
 -- 01: "Abs and Negative check 6, 11, then 18 to 26"
 abbrev pub unaryChecks : Fields → List Check

@@ -13,10 +13,8 @@ use Rattle.base.specs.Checks.{sizesFail}
 use Rattle.base.specs.Bounds.{lowersPresent, lowersPositive}
 use Rattle.base.specs.Code.{headFields}
 use Rattle.base.specs.declared.Head.{Head}
-use Rattle.base.specs.declared.Component.{Component}
-use Rattle.base.specs.declared.Component.the-variants as C
 use Rattle.shape.specs.Shape.{sameGroup, columnsAbsent, columnsClash, rowsClash}
-use Rattle.shape.specs.Orders.{operandChecks, datasetsClash, stabilitiesClash, moduloChecks, logChecks, powerChecks}
+use Rattle.shape.specs.Orders.{operandChecks, datasetsClash, stabilitiesClash}
 
 -- the bytes of an operand, which passed 3, and its head
 pub record Operand (F : Form) (s : List ℕ) (h : Head) : Type 0 where
@@ -62,15 +60,3 @@ module _ (l r : Sheet) where
       ∷ check 15 (isWholeRange (l .nature) && isWholeRange (r .nature))
       ∷ check 16 (not (lowersPositive (l .nature)))
       ∷ []
-
--- 14 to 16 of the components that check them
-abbrev pub boundChecksOf : Component → Sheet → Sheet → List Check
-boundChecksOf C.Abs l r = []
-boundChecksOf C.Add l r = []
-boundChecksOf C.Subtract l r = []
-boundChecksOf C.Multiply l r = []
-boundChecksOf C.Divide l r = []
-boundChecksOf C.Modulo l r = moduloChecks l r
-boundChecksOf C.Log l r = logChecks l r
-boundChecksOf C.Power l r = powerChecks l r
-boundChecksOf C.Negative l r = []

@@ -25,8 +25,8 @@ ghost use Rattle.base.specs.Decode.{groupsIn, decode};
 ghost use Rattle.base.specs.Checks.{sizesFail};
 ghost use Rattle.base.specs.Code.{bitsIn, headFields};
 ghost use Rattle.shape.specs.Shape.{bothPrivate, sameGroups};
-ghost use Rattle.shape.specs.Orders.{aggregated, notOne, sampled, operandChecks, unaryChecks, pairChecks, moduloChecks, logChecks, powerChecks, copyChecks, lastChecks};
-ghost use Rattle.shape.specs.Parts.{Operand, first, next, operandsCode, only, shapeChecks, dataChecks, boundChecksOf};
+ghost use Rattle.shape.specs.Orders.{aggregated, notOne, sampled, operandChecks, unaryChecks, pairChecks, moduloChecks, logChecks, powerChecks, boundChecks, copyChecks, lastChecks};
+ghost use Rattle.shape.specs.Parts.{Operand, first, next, operandsCode, only, shapeChecks, dataChecks};
 
 // The number of a check that fails, else what the later ones say.
 fn first(number: u32, fails: bool, rest: u32) -> u32
@@ -207,7 +207,7 @@ fn log_code(left: &[u8], right: &[u8], l: Head) -> u32
 
 fn bound_code(c: Component, left: &[u8], right: &[u8], l: Head, r: Head) -> u32
     requires { ⌜ Operand narrow (now left) l × Operand narrow (now right) r ⌝ }
-    ensures { λ o. ⌜ o ≡ firstFailing (boundChecksOf c (decode narrow (now (left .entry))) (decode narrow (now (right .entry)))) ⌝ }
+    ensures { λ o. ⌜ o ≡ firstFailing (boundChecks c (decode narrow (now (left .entry))) (decode narrow (now (right .entry)))) ⌝ }
 {
     match c {
         Component::Abs => 0,
@@ -225,7 +225,7 @@ fn bound_code(c: Component, left: &[u8], right: &[u8], l: Head, r: Head) -> u32
 // Modulo, Log and Power, before their nature is derived.
 pub fn copy_code(c: Component, left: &[u8], right: &[u8], l: Head, r: Head) -> u32
     requires { ⌜ Operand narrow (now left) l × Operand narrow (now right) r ⌝ }
-    ensures { λ o. ⌜ o ≡ firstFailing (copyChecks (decode narrow (now (left .entry))) (decode narrow (now (right .entry))) (boundChecksOf c (decode narrow (now (left .entry))) (decode narrow (now (right .entry))))) ⌝ }
+    ensures { λ o. ⌜ o ≡ firstFailing (copyChecks c (decode narrow (now (left .entry))) (decode narrow (now (right .entry)))) ⌝ }
 {
     let bounds = bound_code(c, left, right, l, r);
     let columns = first(NO_COLUMNS, crate::columns_absent(l), 0);

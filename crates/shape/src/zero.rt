@@ -11,8 +11,8 @@ ghost use Rattle.base.specs.Form.{narrow};
 ghost use Rattle.base.specs.Decode.{natureIn};
 ghost use Rattle.base.specs.Checks.{holdsFrom, sizesFail, fieldsFail};
 ghost use Rattle.base.specs.Sized.{ListsFit};
-ghost use Rattle.shape.specs.Fields.{mayMeetZero, addsNullity};
-ghost use Rattle.shape.specs.Asked.{valueApart, isDivide};
+ghost use Rattle.shape.specs.Fields.{mayMeetZero, isDivide, addsNullity};
+ghost use Rattle.shape.specs.Asked.{valueApart};
 
 fn nan_or_zero(x: f64) -> bool
     ensures { λ r. ⌜ r ≡ (Ieee.isNan x || Ieee.eq x zeroFloat) ⌝ }

@@ -17,11 +17,13 @@ use Rattle.utilities.proofs.Built.{both-hold}
 use Rattle.utilities.specs.Columns.{spreads, each, eachPair}
 use Rattle.base.specs.Form.{intType}
 use Rattle.base.specs.Encode.{total}
+use Rattle.base.specs.Components.{familyOf}
 use Rattle.base.specs.declared.Component.{Component}
 use Rattle.base.specs.declared.Component.the-variants as C
 use Rattle.ends.specs.Ends.{both, present, fromTwo, fromOne, fromBoth, addEnds, subEnds, negEnds, absLower, absUpper, absEnds, corners, mulCorners, mulEnds, divCorners, divUpper, divLower, divPresent, divBy, divEnds, modEnds, endRule}
 use Rattle.ranges.specs.Ranges.{wholeRule, rangePair, rangeAlone}
 use Rattle.categories.specs.Categories.{categoryRule, pairs, product, combined, mapped, counted, limited}
+use Rattle.transforms.specs.Code.{isIntCopy}
 use Rattle.transforms.proofs.Passing.{Passing}
 
 -- a value, or a refusal with another number
@@ -227,30 +229,15 @@ pub data ClearRule : Option (ℤ → ℤ → Result ℤ) → Type 0 where
   no-rule : ClearRule none
   by-rule : {rule : ℤ → ℤ → Result ℤ} → ((a b : ℤ) → Clear (rule a b)) → ClearRule (some rule)
 
-cond-rule : (t : Bool) {o q : Option (ℤ → ℤ → Result ℤ)} → ClearRule o → ClearRule q → ClearRule (cond t o q)
-cond-rule true p q = p
-cond-rule false p q = q
-
 -- Int Power's rule is the one that may
-abbrev pub isIntPower : Component → ℕ → Bool
-isIntPower C.Abs type = false
-isIntPower C.Add type = false
-isIntPower C.Subtract type = false
-isIntPower C.Multiply type = false
-isIntPower C.Divide type = false
-isIntPower C.Modulo type = false
-isIntPower C.Log type = false
-isIntPower C.Power type = eqb type intType
-isIntPower C.Negative type = false
-
-pub category-clear : (c : Component) (type : ℕ) → isIntPower c type ≡ false → ClearRule (categoryRule c type)
+pub category-clear : (c : Component) (type : ℕ) → isIntCopy (familyOf c) type ≡ false → ClearRule (categoryRule c type)
 unfolding categoryRule
 category-clear C.Abs type e = by-rule (λ a b. fitting-clear (checkedOf (pos (natAbs a))))
 category-clear C.Add type e = by-rule (whole-clear .add)
 category-clear C.Subtract type e = by-rule (whole-clear .sub)
 category-clear C.Multiply type e = by-rule (whole-clear .mul)
 category-clear C.Divide type e = by-rule (whole-clear .div)
-category-clear C.Modulo type e = cond-rule (eqb type intType) (by-rule (λ a b. cond-clear (eqb (natAbs b) 0) (other refl) value)) no-rule
+category-clear C.Modulo type e = rw e no-rule
 category-clear C.Log type e = no-rule
 category-clear C.Power type e = rw e no-rule
 category-clear C.Negative type e = by-rule (λ a b. whole-clear .neg a)

@@ -5,16 +5,15 @@
 --     copy-refused, copy-nature-refused, copy-last-refused, copy-written    Modulo, Log and Power
 --     refused-code                                            a code that is not 0 is the refusal's
 --     step-left-refused, step-right-refused                   a sheet that 3 to 5 refuse
---     step-alone, step-paired, step-copied                    each group's answer is the step
+--     step-alone, step-paired, step-copied                    each family's answer is the step
 -- Assumes nothing.
-use mathlib.Core.Path.{_≡_, refl, sym, ap, subst, _∙_}
+use mathlib.Core.Path.{_≡_, sym, ap, _∙_}
 use mathlib.Core.Bool.{Bool, true, false, cond}
 use mathlib.Core.List.{List}
 use Prim.Native.Nat.{ℕ, _+_, _*_, _≤_}
 use native.Mathlib.Omega.{arith}
 use lib.IntN.{ℤ, pos}
 use lib.ListN.{length}
-use lib.Dec.{T}
 use borrow.Author.Tests.{ne-eqb}
 use Rattle.bytes.specs.Le.{leAt}
 use Rattle.numbers.specs.Result.{Result, ok, refused, andThen, Check, checked, firstFailing}
@@ -25,9 +24,10 @@ use Rattle.base.specs.Decode.{asWhole, fieldsIn, natureIn, groupsIn, decode}
 use Rattle.base.specs.Encode.{encode}
 use Rattle.base.specs.Checks.{sizesFail, read}
 use Rattle.base.specs.Code.{codeOf}
-use Rattle.base.specs.Components.{isUnary}
+use Rattle.base.specs.Components.{familyOf, isUnary}
 use Rattle.base.specs.declared.Component.{Component}
-use Rattle.base.specs.declared.Component.the-variants as C
+use Rattle.base.specs.declared.Family.{Family}
+use Rattle.base.specs.declared.Family.the-variants as Fam
 use Rattle.base.proofs.Passed.{passed, passed-all, read-ok}
 use Rattle.writer.specs.declared.Parts.{Parts}
 use Rattle.writer.specs.Room.{Room}
@@ -36,13 +36,12 @@ use Rattle.writer.proofs.Sheets.{sheet-written}
 use Rattle.shape.specs.Shape.{columnsOf, widest}
 use Rattle.shape.specs.Fields.{pairFields, copyFields, addsNullity, pairSheet, copySheet, unarySheet, withNode, numbered}
 use Rattle.shape.specs.Orders.{unaryChecks, pairChecks, copyChecks, lastChecks}
-use Rattle.shape.specs.Parts.{boundChecksOf}
 use Rattle.shape.proofs.Refusals.{Numbered, checked-passes, checked-refuses}
 use Rattle.shape.proofs.Orders.{unary-numbered, pair-numbered, copy-numbered, last-numbered}
 use Rattle.transforms.specs.Natures.{unaryNature, binaryNature}
 use Rattle.transforms.specs.Derive.{deriveUnary, derivePair, deriveCopy, derive}
 use Rattle.transforms.specs.Single.{stepSheet, step}
-use Rattle.transforms.specs.Code.{Read, isPair, isCopy}
+use Rattle.transforms.specs.Code.{Read}
 
 -- the buffer of the longest sheet has room for any groups and any derived nature
 pub room :
@@ -137,21 +136,9 @@ module _ (c : Component) (left : List ℕ) {x : Fields} (head : x ≡ fieldsIn n
 
 -- ---- Add, Subtract, Multiply and Divide
 
-numbered-pair : (c : Component) → isPair c ≡ true → (node : ℕ) (s : Sheet) → numbered c node s ≡ withNode (pos node) s
-unfolding numbered
-numbered-pair C.Abs e node s = absurd (subst T (sym e) tt)
-numbered-pair C.Add e node s = refl
-numbered-pair C.Subtract e node s = refl
-numbered-pair C.Multiply e node s = refl
-numbered-pair C.Divide e node s = refl
-numbered-pair C.Modulo e node s = absurd (subst T (sym e) tt)
-numbered-pair C.Log e node s = absurd (subst T (sym e) tt)
-numbered-pair C.Power e node s = absurd (subst T (sym e) tt)
-numbered-pair C.Negative e node s = absurd (subst T (sym e) tt)
-
 module _ (c : Component) (node : ℕ) (left right : List ℕ) {k : ℕ} (code : k ≡ firstFailing (pairChecks (decode narrow left) (decode narrow right))) where
   abbrev pairAnswer : Result (List ℕ)
-  pairAnswer = andThen (derivePair (narrow .categoryLimit) c (decode narrow left) (decode narrow right)) (λ s. ok (encode narrow (numbered c node s)))
+  pairAnswer = andThen (derivePair (narrow .categoryLimit) c (decode narrow left) (decode narrow right)) (λ s. ok (encode narrow (withNode (pos node) s)))
 
   -- what `derivePair` asks of the natures
   abbrev pairNature : Result Nature
@@ -164,7 +151,7 @@ module _ (c : Component) (node : ℕ) (left right : List ℕ) {k : ℕ} (code : 
   pair-refused h =
       let l = decode narrow left in
       let r = decode narrow right in
-      check-refuses (pairChecks l r) pairNature (λ n. ok (pairSheet c l r n)) (λ s. encode narrow (numbered c node s)) code h
+      check-refuses (pairChecks l r) pairNature (λ n. ok (pairSheet c l r n)) (λ s. encode narrow (withNode (pos node) s)) code h
 
   module _ {x y : Fields} (lh : x ≡ fieldsIn narrow left) (rh : y ≡ fieldsIn narrow right) {columns : ℕ} (width : columns ≡ widest x y) (none : k ≡ 0) where
     abbrev pairGiven : Result Nature
@@ -179,43 +166,26 @@ module _ (c : Component) (node : ℕ) (left right : List ℕ) {k : ℕ} (code : 
     pair-nature-refused h =
         let l = decode narrow left in
         let r = decode narrow right in
-        nature-refuses (pairChecks l r) pairNature (λ n. ok (pairSheet c l r n)) (λ s. encode narrow (numbered c node s)) (pair-numbered l r)
+        nature-refuses (pairChecks l r) pairNature (λ n. ok (pairSheet c l r n)) (λ s. encode narrow (withNode (pos node) s)) (pair-numbered l r)
         (sym code ∙ none) (h ∙ ap (inWriting narrow) pair-given)
 
     pub pair-written :
-        {w : Written} {vs : List ℕ} {h : Fields} {more : Bool} → isPair c ≡ true → more ≡ addsNullity c (natureIn narrow right) → h ≡ pairFields more x y
+        {w : Written} {vs : List ℕ} {h : Fields} {more : Bool} → more ≡ addsNullity c (natureIn narrow right) → h ≡ pairFields more x y
         → ok w ≡ inWriting narrow pairGiven
         → vs ≡ sheetFrom narrow h (pos node) (cond (x .releasable) (groupsIn narrow right) (groupsIn narrow left)) w → ok vs ≡ pairAnswer
     unfolding decode derivePair
-    pair-written pair adds fields g e =
+    pair-written adds fields g e =
         let l = decode narrow left in
         let r = decode narrow right in
-        nature-given (pairChecks l r) pairNature (λ n. ok (pairSheet c l r n)) (λ s. encode narrow (numbered c node s)) (pair-numbered l r)
+        nature-given (pairChecks l r) pairNature (λ n. ok (pairSheet c l r n)) (λ s. encode narrow (withNode (pos node) s)) (pair-numbered l r)
         (sym code ∙ none) (g ∙ ap (inWriting narrow) pair-given)
-        (λ n same.
-        sheet-bytes (withNode (pos node) (pairSheet c l r n)) (rw (fields, adds, lh, rh) at e) same
-        ∙ ap (λ (s : Sheet). ok (encode narrow s)) (sym (numbered-pair c pair node (pairSheet c l r n))))
+        (λ n same. sheet-bytes (withNode (pos node) (pairSheet c l r n)) (rw (fields, adds, lh, rh) at e) same)
 
 -- ---- Modulo, Log and Power
 
-copy-derives :
-    (c : Component) → isCopy c ≡ true → (limit : ℕ) (l r : Sheet) → deriveCopy limit c (boundChecksOf c l r) l r ≡ derive limit c l r
-unfolding derive
-copy-derives C.Abs e limit l r = absurd (subst T (sym e) tt)
-copy-derives C.Add e limit l r = absurd (subst T (sym e) tt)
-copy-derives C.Subtract e limit l r = absurd (subst T (sym e) tt)
-copy-derives C.Multiply e limit l r = absurd (subst T (sym e) tt)
-copy-derives C.Divide e limit l r = absurd (subst T (sym e) tt)
-copy-derives C.Modulo e limit l r = refl
-copy-derives C.Log e limit l r = refl
-copy-derives C.Power e limit l r = refl
-copy-derives C.Negative e limit l r = absurd (subst T (sym e) tt)
-
-module _
-    (c : Component) (copies : isCopy c ≡ true) (left right : List ℕ)
-    {k : ℕ} (code : k ≡ firstFailing (copyChecks (decode narrow left) (decode narrow right) (boundChecksOf c (decode narrow left) (decode narrow right)))) where
+module _ (c : Component) (left right : List ℕ) {k : ℕ} (code : k ≡ firstFailing (copyChecks c (decode narrow left) (decode narrow right))) where
   abbrev copyAnswer : Result (List ℕ)
-  copyAnswer = andThen (derive (narrow .categoryLimit) c (decode narrow left) (decode narrow right)) (λ s. ok (encode narrow s))
+  copyAnswer = andThen (deriveCopy (narrow .categoryLimit) c (decode narrow left) (decode narrow right)) (λ s. ok (encode narrow s))
 
   abbrev copyNature : Result Nature
   copyNature =
@@ -225,19 +195,12 @@ module _
   abbrev copyRest : Nature → Result Sheet
   copyRest n = checked (lastChecks (decode narrow left) (decode narrow right)) (ok (copySheet (decode narrow left) (decode narrow right) n))
 
-  copy-is :
-      andThen (checked (copyChecks (decode narrow left) (decode narrow right) (boundChecksOf c (decode narrow left) (decode narrow right))) (andThen copyNature copyRest)) (λ s. ok (encode narrow s))
-      ≡ copyAnswer
-  unfolding deriveCopy
-  copy-is =
-      ap (λ (r : Result Sheet). andThen r (λ s. ok (encode narrow s)))
-      (copy-derives c copies (narrow .categoryLimit) (decode narrow left) (decode narrow right))
-
   pub copy-refused : (k ≡ 0 → ⊥) → refused k ≡ copyAnswer
+  unfolding deriveCopy
   copy-refused h =
       let l = decode narrow left in
       let r = decode narrow right in
-      check-refuses (copyChecks l r (boundChecksOf c l r)) copyNature copyRest (encode narrow) code h ∙ copy-is
+      check-refuses (copyChecks c l r) copyNature copyRest (encode narrow) code h
 
   module _ {x : Fields} (lh : x ≡ fieldsIn narrow left) {columns : ℕ} (width : columns ≡ columnsOf x) (none : k ≡ 0) where
     abbrev copyGiven : Result Nature
@@ -248,21 +211,21 @@ module _
     copy-given = rw (width, lh)
 
     pub copy-nature-refused : {m : ℕ} → refused m ≡ inWriting narrow copyGiven → refused m ≡ copyAnswer
+    unfolding deriveCopy
     copy-nature-refused h =
         let l = decode narrow left in
         let r = decode narrow right in
-        nature-refuses (copyChecks l r (boundChecksOf c l r)) copyNature copyRest (encode narrow) (copy-numbered l r c) (sym code ∙ none)
+        nature-refuses (copyChecks c l r) copyNature copyRest (encode narrow) (copy-numbered l r c) (sym code ∙ none)
         (h ∙ ap (inWriting narrow) copy-given)
-        ∙ copy-is
 
     module _ {w : Written} (g : ok w ≡ inWriting narrow copyGiven) {m : ℕ} (last : m ≡ firstFailing (lastChecks (decode narrow left) (decode narrow right))) where
       copy-nature-given : {o : Result (List ℕ)} → ((n : Nature) → writtenOf narrow n ≡ w → o ≡ andThen (copyRest n) (λ s. ok (encode narrow s))) → o ≡ copyAnswer
+      unfolding deriveCopy
       copy-nature-given f =
           let l = decode narrow left in
           let r = decode narrow right in
-          nature-given (copyChecks l r (boundChecksOf c l r)) copyNature copyRest (encode narrow) (copy-numbered l r c) (sym code ∙ none)
+          nature-given (copyChecks c l r) copyNature copyRest (encode narrow) (copy-numbered l r c) (sym code ∙ none)
           (g ∙ ap (inWriting narrow) copy-given) f
-          ∙ copy-is
 
       pub copy-last-refused : (m ≡ 0 → ⊥) → refused m ≡ copyAnswer
       copy-last-refused h =
@@ -290,85 +253,50 @@ module _
 pub was-read : (s : List ℕ) {k : ℕ} → k ≡ codeOf (read narrow s) → k ≡ 0 → Read s
 was-read s code e = let p = passed-all narrow s (sym code ∙ e) in record { sizes = p .sizes; fields = p .fields }
 
+pub right-was-read : (s : List ℕ) (f : Family) {k : ℕ} → k ≡ cond (isUnary f) 0 (codeOf (read narrow s)) → k ≡ 0 → isUnary f ≡ false → Read s
+right-was-read s f code e u = was-read s (rw u at code) e
+
 pub refused-code : {X : Type 0} (r : Result X) {k : ℕ} → k ≡ codeOf r → (k ≡ 0 → ⊥) → r ≡ refused k
 refused-code (ok x) {k} e h = absurd (h e)
 refused-code (refused m) e h = ap refused (sym e)
-
-unary-is :
-    (c : Component) → isUnary c ≡ true → (limit node : ℕ) (l r : Sheet)
-    → andThen (deriveUnary limit c l) (λ s. ok (encode narrow s)) ≡ andThen (derive limit c l r) (λ s. ok (encode narrow (numbered c node s)))
-unfolding derive numbered
-unary-is C.Abs e limit node l r = refl
-unary-is C.Add e limit node l r = absurd (subst T (sym e) tt)
-unary-is C.Subtract e limit node l r = absurd (subst T (sym e) tt)
-unary-is C.Multiply e limit node l r = absurd (subst T (sym e) tt)
-unary-is C.Divide e limit node l r = absurd (subst T (sym e) tt)
-unary-is C.Modulo e limit node l r = absurd (subst T (sym e) tt)
-unary-is C.Log e limit node l r = absurd (subst T (sym e) tt)
-unary-is C.Power e limit node l r = absurd (subst T (sym e) tt)
-unary-is C.Negative e limit node l r = refl
-
-copied-is :
-    (c : Component) → isCopy c ≡ true → (limit node : ℕ) (l r : Sheet)
-    → andThen (derive limit c l r) (λ s. ok (encode narrow s)) ≡ andThen (derive limit c l r) (λ s. ok (encode narrow (numbered c node s)))
-unfolding numbered
-copied-is C.Abs e limit node l r = refl
-copied-is C.Add e limit node l r = absurd (subst T (sym e) tt)
-copied-is C.Subtract e limit node l r = absurd (subst T (sym e) tt)
-copied-is C.Multiply e limit node l r = absurd (subst T (sym e) tt)
-copied-is C.Divide e limit node l r = absurd (subst T (sym e) tt)
-copied-is C.Modulo e limit node l r = refl
-copied-is C.Log e limit node l r = refl
-copied-is C.Power e limit node l r = refl
-copied-is C.Negative e limit node l r = refl
-
-paired-is : (c : Component) → isPair c ≡ true → (limit : ℕ) (l r : Sheet) → derivePair limit c l r ≡ derive limit c l r
-unfolding derive
-paired-is C.Abs e limit l r = absurd (subst T (sym e) tt)
-paired-is C.Add e limit l r = refl
-paired-is C.Subtract e limit l r = refl
-paired-is C.Multiply e limit l r = refl
-paired-is C.Divide e limit l r = refl
-paired-is C.Modulo e limit l r = absurd (subst T (sym e) tt)
-paired-is C.Log e limit l r = absurd (subst T (sym e) tt)
-paired-is C.Power e limit l r = absurd (subst T (sym e) tt)
-paired-is C.Negative e limit l r = absurd (subst T (sym e) tt)
 
 module _ (c : Component) (node : ℕ) (left right : List ℕ) {k : ℕ} (code : k ≡ codeOf (read narrow left)) where
   pub step-left-refused : (k ≡ 0 → ⊥) → refused k ≡ step narrow c node left right
   unfolding step stepSheet
   step-left-refused h = rw (refused-code (read narrow left) code h)
 
-  module _ (passes : k ≡ 0) where
+  module _ (passes : k ≡ 0) {f : Family} (family : f ≡ familyOf c) {m : ℕ} (code′ : m ≡ cond (isUnary f) 0 (codeOf (read narrow right))) where
     left-read : read narrow left ≡ ok (decode narrow left)
     left-read = read-ok narrow left (sym code ∙ passes)
 
-    pub step-alone :
-        isUnary c ≡ true → andThen (deriveUnary (narrow .categoryLimit) c (decode narrow left)) (λ s. ok (encode narrow s)) ≡ step narrow c node left right
+    pub step-right-refused : (m ≡ 0 → ⊥) → refused m ≡ step narrow c node left right
     unfolding step stepSheet
-    step-alone u = rw (left-read, u) (unary-is c u (narrow .categoryLimit) node (decode narrow left) (decode narrow left))
+    step-right-refused h = rw (left-read, sym family) (go (isUnary f) _ _ _ code′)
+      where
+        go : (t : Bool) (one : Result Sheet) (two : Sheet → Result Sheet) (bytes : Sheet → Result (List ℕ)) → m ≡ cond t 0 (codeOf (read narrow right))
+            → refused m ≡ andThen (cond t one (andThen (read narrow right) two)) bytes
+        go true one two bytes e = absurd (h e)
+        go false one two bytes e = rw (refused-code (read narrow right) e h)
 
-    module _ (u : isUnary c ≡ false) {m : ℕ} (code′ : m ≡ codeOf (read narrow right)) where
-      pub step-right-refused : (m ≡ 0 → ⊥) → refused m ≡ step narrow c node left right
-      unfolding step stepSheet
-      step-right-refused h = rw (left-read, u, refused-code (read narrow right) code′ h)
+    pub step-alone :
+        f ≡ Fam.Unary → andThen (deriveUnary (narrow .categoryLimit) c (decode narrow left)) (λ s. ok (encode narrow s)) ≡ step narrow c node left right
+    unfolding step stepSheet derive numbered
+    step-alone u = rw (left-read, sym family ∙ u)
 
-      module _ (passes′ : m ≡ 0) where
-        right-read : read narrow right ≡ ok (decode narrow right)
-        right-read = read-ok narrow right (sym code′ ∙ passes′)
+    module _ (passes′ : m ≡ 0) where
+      right-read : isUnary f ≡ false → read narrow right ≡ ok (decode narrow right)
+      right-read u = read-ok narrow right (sym (rw u at code′) ∙ passes′)
 
-        pub step-copied :
-            isCopy c ≡ true
-            → andThen (derive (narrow .categoryLimit) c (decode narrow left) (decode narrow right)) (λ s. ok (encode narrow s)) ≡ step narrow c node left right
-        unfolding step stepSheet
-        step-copied h = rw (left-read, u, right-read) (copied-is c h (narrow .categoryLimit) node (decode narrow left) (decode narrow right))
+      pub step-paired :
+          f ≡ Fam.Pair
+          → andThen (derivePair (narrow .categoryLimit) c (decode narrow left) (decode narrow right)) (λ s. ok (encode narrow (withNode (pos node) s)))
+          ≡ step narrow c node left right
+      unfolding step stepSheet derive numbered
+      step-paired u = rw (left-read, sym family ∙ u, right-read (ap isUnary u))
 
-        pub step-paired :
-            isPair c ≡ true
-            → andThen (derivePair (narrow .categoryLimit) c (decode narrow left) (decode narrow right)) (λ s. ok (encode narrow (numbered c node s)))
-            ≡ step narrow c node left right
-        unfolding step stepSheet
-        step-paired h =
-            rw (left-read, u, right-read)
-            (ap (λ (r : Result Sheet). andThen r (λ s. ok (encode narrow (numbered c node s))))
-            (paired-is c h (narrow .categoryLimit) (decode narrow left) (decode narrow right)))
+      pub step-copied :
+          f ≡ Fam.Copy
+          → andThen (deriveCopy (narrow .categoryLimit) c (decode narrow left) (decode narrow right)) (λ s. ok (encode narrow s))
+          ≡ step narrow c node left right
+      unfolding step stepSheet derive numbered
+      step-copied u = rw (left-read, sym family ∙ u, right-read (ap isUnary u))

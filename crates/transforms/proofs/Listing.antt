@@ -11,20 +11,23 @@ use Prim.Native.Nat.{ℕ, zero, suc, _≤_, _<_}
 use native.Mathlib.Omega.{arith}
 use lib.IntN.{ℤ}
 use lib.Dec.{eqb}
-use borrow.Author.Tests.{eqb-false, ne-eqb, eq-eqb, not-true}
+use borrow.Author.Tests.{eqb-false, ne-eqb, eq-eqb}
 use Rattle.numbers.specs.Result.{Result, refused, check, checked, firstFailing}
 use Rattle.numbers.specs.Kind.{eqZ}
 use Rattle.base.specs.Form.{narrow, byteAt, natureAt, isRangeNature, listCount, floatListsNature}
 use Rattle.base.specs.Sheet.{Nature}
 use Rattle.base.specs.Decode.{asWhole, natureIn, lists}
 use Rattle.base.specs.Encode.{natureNumber, entryCount}
+use Rattle.base.specs.Components.{familyOf}
 use Rattle.base.specs.declared.Component.{Component}
 use Rattle.base.specs.declared.Component.the-variants as C
+use Rattle.base.specs.declared.Family.{Family}
+use Rattle.base.specs.declared.Family.the-variants as Fam
 use Rattle.base.proofs.Natures.{nature-whole-lists, nature-bool-lists}
 use Rattle.categories.specs.Categories.{categoryRule, combined, mapped, limited, ruleOf}
 use Rattle.categories.specs.Columnwise.{Listed}
 use Rattle.transforms.specs.Natures.{ruleFor, ruled, wholeListsOf, isFloatLists, noLists, listsPair, listsAlone}
-use Rattle.transforms.specs.Code.{Lists, Reached, ruledByNumber, hasRule}
+use Rattle.transforms.specs.Code.{Lists, Reached, isIntCopy, hasRule}
 use Rattle.transforms.proofs.Sorted.{yes-no, nature-within, number-of, count-of}
 
 -- ---- 19 and 20
@@ -127,29 +130,25 @@ module _ {s : List ℕ} (f : Fine s) where
 
 -- ---- the rules
 
-rule-none : (c : Component) (type : ℕ) → ruledByNumber c type ≡ true → hasRule c ≡ false → categoryRule c type ≡ none
+rule-is : (c : Component) (type : ℕ) → isIntCopy (familyOf c) type ≡ false → categoryRule c type ≡ cond (hasRule (familyOf c)) (some (ruleOf c)) none
 unfolding categoryRule
-rule-none C.Abs type h n = absurd (yes-no n)
-rule-none C.Add type h n = absurd (yes-no n)
-rule-none C.Subtract type h n = absurd (yes-no n)
-rule-none C.Multiply type h n = absurd (yes-no n)
-rule-none C.Divide type h n = absurd (yes-no n)
-rule-none C.Modulo type h n = rw (not-true (eqb type 4) h)
-rule-none C.Log type h n = refl
-rule-none C.Power type h n = rw (not-true (eqb type 4) h)
-rule-none C.Negative type h n = absurd (yes-no n)
+rule-is C.Abs type h = refl
+rule-is C.Add type h = refl
+rule-is C.Subtract type h = refl
+rule-is C.Multiply type h = refl
+rule-is C.Divide type h = refl
+rule-is C.Modulo type h = rw h
+rule-is C.Log type h = refl
+rule-is C.Power type h = rw h
+rule-is C.Negative type h = refl
 
-rule-some : (c : Component) (type : ℕ) → hasRule c ≡ true → categoryRule c type ≡ some (ruleOf c)
-unfolding categoryRule
-rule-some C.Abs type h = refl
-rule-some C.Add type h = refl
-rule-some C.Subtract type h = refl
-rule-some C.Multiply type h = refl
-rule-some C.Divide type h = refl
-rule-some C.Modulo type h = absurd (yes-no (sym h))
-rule-some C.Log type h = absurd (yes-no (sym h))
-rule-some C.Power type h = absurd (yes-no (sym h))
-rule-some C.Negative type h = refl
+ruled-apart : (f : Family) (type : ℕ) → hasRule f ≡ true → isIntCopy f type ≡ false
+ruled-apart Fam.Unary type h = refl
+ruled-apart Fam.Pair type h = refl
+ruled-apart Fam.Copy type h = absurd (yes-no (sym h))
+
+rule-some : (c : Component) (type : ℕ) → hasRule (familyOf c) ≡ true → categoryRule c type ≡ some (ruleOf c)
+rule-some c type h = rule-is c type (ruled-apart (familyOf c) type h) ∙ ap (λ (t : Bool). cond t (some (ruleOf c)) none) h
 
 -- ---- two operands
 
@@ -206,16 +205,16 @@ module _ (limit : ℕ) (c : Component) (type columns : ℕ) where
             equal-lists d
             ∙ ap₂ (λ (x y : Nature). combining x y) (nature-whole-lists narrow left e) (nature-whole-lists narrow right (sym d ∙ e))
 
-        pub no-rule : Reached c type right → hasRule c ≡ false → listsPair limit c type columns l r ≡ refused 22
+        pub no-rule : Reached c type right → hasRule (familyOf c) ≡ false → listsPair limit c type columns l r ≡ refused 22
         no-rule reached n =
             ⊎-elim
             (λ h.
             whole-pair
-            ∙ ap (λ (o : Option (ℤ → ℤ → Result ℤ)). ruled o (λ rule. limited limit (combined eqZ rule columns (lists narrow left asWhole) (lists narrow right asWhole)))) (rule-none c type h n))
+            ∙ ap (λ (o : Option (ℤ → ℤ → Result ℤ)). ruled o (λ rule. limited limit (combined eqZ rule columns (lists narrow left asWhole) (lists narrow right asWhole)))) (rule-is c type h ∙ ap (λ (t : Bool). cond t (some (ruleOf c)) none) n))
             (λ h. absurd (yes-no (sym h ∙ g .lists .no-range)))
             reached
 
-        pub pair-ruled : hasRule c ≡ true → listsPair limit c type columns l r ≡ limited limit (combined eqZ (ruleOf c) columns (lists narrow left asWhole) (lists narrow right asWhole))
+        pub pair-ruled : hasRule (familyOf c) ≡ true → listsPair limit c type columns l r ≡ limited limit (combined eqZ (ruleOf c) columns (lists narrow left asWhole) (lists narrow right asWhole))
         pair-ruled h =
             whole-pair
             ∙ ap (λ (o : Option (ℤ → ℤ → Result ℤ)). ruled o (λ rule. limited limit (combined eqZ rule columns (lists narrow left asWhole) (lists narrow right asWhole)))) (rule-some c type h)
@@ -235,7 +234,7 @@ module _ (limit : ℕ) (c : Component) (type columns : ℕ) where
       pub bool-alone : byteAt narrow natureAt s ≡ 4 → listsAlone limit c type columns (natureIn narrow s) ≡ refused 22
       bool-alone e = alone-opened ∙ ap (λ (k : Nature). mapping k) (nature-bool-lists narrow s e)
 
-      pub alone-ruled : byteAt narrow natureAt s ≡ 3 → hasRule c ≡ true → listsAlone limit c type columns (natureIn narrow s) ≡ limited limit (mapped eqZ (ruleOf c) columns (lists narrow s asWhole))
+      pub alone-ruled : byteAt narrow natureAt s ≡ 3 → hasRule (familyOf c) ≡ true → listsAlone limit c type columns (natureIn narrow s) ≡ limited limit (mapped eqZ (ruleOf c) columns (lists narrow s asWhole))
       alone-ruled e h =
           alone-opened
           ∙ ap (λ (k : Nature). mapping k) (nature-whole-lists narrow s e)

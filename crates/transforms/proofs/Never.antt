@@ -1,6 +1,6 @@
 -- The single call never refuses with 25, in any stored form (`never-25`): 15 keeps categories from Int Power, whose rule alone gives 25.
 -- Assumes nothing.
-use mathlib.Core.Path.{_≡_, refl, sym, subst, _∙_}
+use mathlib.Core.Path.{_≡_, refl, sym, ap, subst, _∙_}
 use mathlib.Core.Bool.{Bool, true, false, cond, not, _&&_}
 use mathlib.Core.List.{List, [], _∷_, _++_}
 use mathlib.Core.Option.{Option, none, some}
@@ -10,30 +10,32 @@ use lib.IntN.{ℤ}
 use lib.Ieee.{Float}
 use lib.ListN.{length}
 use lib.Dec.{T, eqb, leb}
-use borrow.Author.Tests.{not-true, eq-eqb}
+use borrow.Author.Tests.{eq-eqb}
 use Rattle.numbers.specs.Result.{Result, ok, refused, Check, check}
 use Rattle.numbers.specs.Kind.{Span, whole, float, eqZ}
 use Rattle.utilities.specs.Lists.{every}
-use Rattle.base.specs.Form.{Form, intType, floatType}
+use Rattle.base.specs.Form.{Form}
 use Rattle.base.specs.Sheet.{Sheet, Nature, absent, wholeRange, floatRange, wholeLists, boolLists, floatLists}
-use Rattle.base.specs.Bounds.{wholeLowersPresent, lowersNonNegative}
+use Rattle.base.specs.Bounds.{wholeLowersPresent}
 use Rattle.base.specs.Checks.{read, sheetChecks}
-use Rattle.base.specs.Components.{componentOf, isUnary}
+use Rattle.base.specs.Components.{componentOf, familyOf, isUnary}
 use Rattle.base.specs.declared.Component.{Component}
-use Rattle.base.specs.declared.Component.the-variants as C
+use Rattle.base.specs.declared.Family.{Family}
+use Rattle.base.specs.declared.Family.the-variants as Fam
 use Rattle.base.specs.declared.Numbered.{Numbered}
 use Rattle.base.specs.declared.Numbered.the-variants as N
 use Rattle.ends.specs.Ends.{endRule}
 use Rattle.ranges.specs.Ranges.{wholeRule}
 use Rattle.shape.specs.Shape.{columnsOf, columnsAbsent, widest}
-use Rattle.shape.specs.Orders.{unaryChecks, pairChecks, bothOf, copyChecks, lastChecks}
-use Rattle.shape.specs.Parts.{boundChecksOf}
+use Rattle.shape.specs.Orders.{unaryChecks, pairChecks, boundChecks, copyChecks, lastChecks}
+use Rattle.shape.proofs.Orders.{bounds-every}
 use Rattle.transforms.specs.Natures.{ruleFor, ruled, wholeListsOf, listChecks, bothListChecks, listsPair, listsAlone, wholeRangeWith, floatRangeWith, listsWith, binaryNature, unaryNature}
-use Rattle.transforms.specs.Derive.{deriveUnary, derivePair, deriveCopy, derive}
+use Rattle.transforms.specs.Derive.{deriveUnary, derivePair, deriveCopy, deriveBy, derive}
 use Rattle.transforms.specs.Single.{Outcome, stepSheet, step, delivery, singleOf, single}
+use Rattle.transforms.specs.Code.{isIntCopy}
 use Rattle.transforms.specs.Unreached.{isLists}
-use Rattle.transforms.proofs.Passing.{Passing, pass-parts, whole-types}
-use Rattle.transforms.proofs.Clear.{Clear, value, other, then-clear, cond-clear, others, checked-clear, whole-clear, float-clear, rule-clear, whole-rule-clear, range-pair-clear, range-alone-clear, combined-clear, mapped-clear, limited-clear, ClearRule, no-rule, by-rule, isIntPower, category-clear}
+use Rattle.transforms.proofs.Passing.{Passing, pass-parts, bounds-int}
+use Rattle.transforms.proofs.Clear.{Clear, value, other, then-clear, cond-clear, others, checked-clear, whole-clear, float-clear, rule-clear, whole-rule-clear, range-pair-clear, range-alone-clear, combined-clear, mapped-clear, limited-clear, ClearRule, no-rule, by-rule, category-clear}
 
 -- ---- natures
 
@@ -44,7 +46,7 @@ ruled-clear none rest no-rule f = other refl
 ruled-clear (some rule) rest (by-rule r) f = f rule r
 
 module _ (limit : ℕ) (c : Component) (type columns : ℕ) where
-  rule-for-clear : isIntPower c type ≡ false → (l : Nature) → ClearRule (ruleFor c type l)
+  rule-for-clear : isIntCopy (familyOf c) type ≡ false → (l : Nature) → ClearRule (ruleFor c type l)
   rule-for-clear e absent = no-rule
   rule-for-clear e (wholeRange rs) = no-rule
   rule-for-clear e (floatRange rs) = no-rule
@@ -52,21 +54,21 @@ module _ (limit : ℕ) (c : Component) (type columns : ℕ) where
   rule-for-clear e (boolLists ls) = no-rule
   rule-for-clear e (floatLists ls) = no-rule
 
-  pair-clear : isIntPower c type ≡ false → (l r : Nature) → Clear (listsPair limit c type columns l r)
+  pair-clear : isIntCopy (familyOf c) type ≡ false → (l r : Nature) → Clear (listsPair limit c type columns l r)
   unfolding listsPair every
   pair-clear e l r =
       checked-clear (bothListChecks l r) refl
       (λ p. ruled-clear (ruleFor c type l) _ (rule-for-clear e l) (λ rule f. limited-clear limit (combined-clear eqZ rule f columns (wholeListsOf l) (wholeListsOf r))))
 
-  alone-clear : isIntPower c type ≡ false → (l : Nature) → Clear (listsAlone limit c type columns l)
+  alone-clear : isIntCopy (familyOf c) type ≡ false → (l : Nature) → Clear (listsAlone limit c type columns l)
   unfolding listsAlone every
   alone-clear e l =
       checked-clear (listChecks l) refl
       (λ p. ruled-clear (ruleFor c type l) _ (rule-for-clear e l) (λ rule f. limited-clear limit (mapped-clear eqZ rule f columns (wholeListsOf l))))
 
-  -- a pair of categories does not meet Int Power
+  -- a pair of categories meets no rule of Modulo, Log and Power on Int
   abbrev Apart : Nature → Type 0
-  Apart r = (isIntPower c type && isLists r) ≡ false
+  Apart r = (isIntCopy (familyOf c) type && isLists r) ≡ false
 
   apart-rule : (t : Bool) → (t && true) ≡ false → t ≡ false
   apart-rule true e = e
@@ -77,9 +79,9 @@ module _ (limit : ℕ) (c : Component) (type columns : ℕ) where
   lists-clear l absent e = value
   lists-clear l (wholeRange ys) e = value
   lists-clear l (floatRange ys) e = value
-  lists-clear l (wholeLists ms) e = pair-clear (apart-rule (isIntPower c type) e) l (wholeLists ms)
-  lists-clear l (boolLists ms) e = pair-clear (apart-rule (isIntPower c type) e) l (boolLists ms)
-  lists-clear l (floatLists ms) e = pair-clear (apart-rule (isIntPower c type) e) l (floatLists ms)
+  lists-clear l (wholeLists ms) e = pair-clear (apart-rule (isIntCopy (familyOf c) type) e) l (wholeLists ms)
+  lists-clear l (boolLists ms) e = pair-clear (apart-rule (isIntCopy (familyOf c) type) e) l (boolLists ms)
+  lists-clear l (floatLists ms) e = pair-clear (apart-rule (isIntCopy (familyOf c) type) e) l (floatLists ms)
 
   whole-with-clear : (xs : List (Span ℤ)) (r : Nature) → Clear (wholeRangeWith limit c type columns xs r)
   unfolding wholeRangeWith
@@ -108,7 +110,7 @@ module _ (limit : ℕ) (c : Component) (type columns : ℕ) where
   binary-clear (boolLists ls) r e = lists-clear (boolLists ls) r e
   binary-clear (floatLists ls) r e = lists-clear (floatLists ls) r e
 
-  unary-clear : isIntPower c type ≡ false → (l : Nature) → Clear (unaryNature limit c type columns l)
+  unary-clear : isIntCopy (familyOf c) type ≡ false → (l : Nature) → Clear (unaryNature limit c type columns l)
   unfolding unaryNature
   unary-clear e absent = value
   unary-clear e (wholeRange xs) = then-clear _ (range-alone-clear (endRule whole c) (rule-clear whole-clear c) columns xs) (λ zs. value)
@@ -119,11 +121,6 @@ module _ (limit : ℕ) (c : Component) (type columns : ℕ) where
 
 -- ---- the orders of the checks
 
-choice-others : (a b : Bool) (xs ys zs : List Check) → others xs ≡ true → others ys ≡ true → others zs ≡ true → others (cond a xs (cond b ys zs)) ≡ true
-choice-others true b xs ys zs x y z = x
-choice-others false true xs ys zs x y z = y
-choice-others false false xs ys zs x y z = z
-
 others-then : (bs : List Check) (t : Bool) → others bs ≡ true → others (bs ++ (check 11 t ∷ [])) ≡ true
 unfolding every
 others-then [] t e = refl
@@ -133,19 +130,6 @@ others-then (b ∷ bs) t e = go (not (eqb (b .number) 25)) e (others-then bs t)
         → cond p (others (bs ++ (check 11 t ∷ []))) false ≡ true
     go true e f = f e
     go false e f = e
-
-module _ (l r : Sheet) where
-  bounds-others : (c : Component) → others (boundChecksOf c l r) ≡ true
-  unfolding every
-  bounds-others C.Abs = refl
-  bounds-others C.Add = refl
-  bounds-others C.Subtract = refl
-  bounds-others C.Multiply = refl
-  bounds-others C.Divide = refl
-  bounds-others C.Modulo = choice-others (bothOf l r intType) (bothOf l r floatType) _ _ _ refl refl refl
-  bounds-others C.Log = refl
-  bounds-others C.Power = choice-others (bothOf l r intType) (bothOf l r floatType) _ _ _ refl refl refl
-  bounds-others C.Negative = refl
 
 -- `lower_int` gives no list of categories
 whole-no-lists : (k : Nature) → wholeLowersPresent k ≡ true → isLists k ≡ false
@@ -162,62 +146,51 @@ and-no true u e = e
 and-no false u e = refl
 
 -- 15 keeps categories from Int Power
-bounds-apart : (l r : Sheet) (c : Component) → Passing (boundChecksOf c l r) → (isIntPower c (l .fields .dataType) && isLists (r .nature)) ≡ false
-bounds-apart l r C.Abs p = refl
-bounds-apart l r C.Add p = refl
-bounds-apart l r C.Subtract p = refl
-bounds-apart l r C.Multiply p = refl
-bounds-apart l r C.Divide p = refl
-bounds-apart l r C.Modulo p = refl
-bounds-apart l r C.Log p = refl
-bounds-apart l r C.Power p =
-    let type = l .fields .dataType in
+bounds-apart : (l r : Sheet) (c : Component) → Passing (boundChecks c l r) → (isIntCopy (familyOf c) (l .fields .dataType) && isLists (r .nature)) ≡ false
+bounds-apart l r c p =
+    let int = isIntCopy (familyOf c) (l .fields .dataType) in
     ⊎-elim
-    (λ (h : not (eqb type intType) ≡ true). rw (not-true (eqb type intType) h))
-    (λ (h : wholeLowersPresent (r .nature) ≡ true). and-no (eqb type intType) (isLists (r .nature)) (whole-no-lists (r .nature) h))
-    (whole-types type (r .fields .dataType) (wholeLowersPresent (r .nature)) (check 16 (not (lowersNonNegative (r .nature))) ∷ []) [] p)
-bounds-apart l r C.Negative p = refl
+    (λ (h : int ≡ false). rw h)
+    (λ (h : wholeLowersPresent (r .nature) ≡ true). and-no int (isLists (r .nature)) (whole-no-lists (r .nature) h))
+    (bounds-int l r c p)
 
 -- ---- the derivation
 
 module _ (limit : ℕ) (c : Component) where
-  derive-unary-clear : ((type : ℕ) → isIntPower c type ≡ false) → (s : Sheet) → Clear (deriveUnary limit c s)
+  derive-unary-clear : ((type : ℕ) → isIntCopy (familyOf c) type ≡ false) → (s : Sheet) → Clear (deriveUnary limit c s)
   unfolding deriveUnary every
   derive-unary-clear e s =
       checked-clear (unaryChecks (s .fields)) refl
       (λ p. then-clear _ (unary-clear limit c (s .fields .dataType) (columnsOf (s .fields)) (e (s .fields .dataType)) (s .nature)) (λ k. value))
 
-  derive-pair-clear : ((type : ℕ) → isIntPower c type ≡ false) → (l r : Sheet) → Clear (derivePair limit c l r)
+  derive-pair-clear : ((type : ℕ) → isIntCopy (familyOf c) type ≡ false) → (l r : Sheet) → Clear (derivePair limit c l r)
   unfolding derivePair every
   derive-pair-clear e l r =
       let type = l .fields .dataType in
-      let apart : (isIntPower c type && isLists (r .nature)) ≡ false = rw (e type) in
+      let apart : (isIntCopy (familyOf c) type && isLists (r .nature)) ≡ false = rw (e type) in
       checked-clear (pairChecks l r) refl
       (λ p. then-clear _ (binary-clear limit c type (widest (l .fields) (r .fields)) (l .nature) (r .nature) apart) (λ k. value))
 
-  derive-copy-clear : (l r : Sheet) → Clear (deriveCopy limit c (boundChecksOf c l r) l r)
+  derive-copy-clear : (l r : Sheet) → Clear (deriveCopy limit c l r)
   unfolding deriveCopy every
   derive-copy-clear l r =
-      let bounds = boundChecksOf c l r in
+      let bounds = boundChecks c l r in
       let absent = columnsAbsent (l .fields) in
-      checked-clear (copyChecks l r bounds) (others-then bounds absent (bounds-others l r c))
+      checked-clear (copyChecks c l r) (others-then bounds absent (bounds-every l r (λ k. not (eqb k 25)) refl refl refl c))
       (λ p.
       then-clear _
       (binary-clear limit c (l .fields .dataType) (columnsOf (l .fields)) (l .nature) (r .nature)
       (bounds-apart l r c (pass-parts bounds (check 11 absent ∷ []) (p .1 .1 .1 .1) .0)))
       (λ k. checked-clear (lastChecks l r) refl (λ q. value)))
 
-derive-clear : (limit : ℕ) (c : Component) (l r : Sheet) → Clear (derive limit c l r)
-unfolding derive
-derive-clear limit C.Abs l r = derive-unary-clear limit C.Abs (λ type. refl) l
-derive-clear limit C.Add l r = derive-pair-clear limit C.Add (λ type. refl) l r
-derive-clear limit C.Subtract l r = derive-pair-clear limit C.Subtract (λ type. refl) l r
-derive-clear limit C.Multiply l r = derive-pair-clear limit C.Multiply (λ type. refl) l r
-derive-clear limit C.Divide l r = derive-pair-clear limit C.Divide (λ type. refl) l r
-derive-clear limit C.Modulo l r = derive-copy-clear limit C.Modulo l r
-derive-clear limit C.Log l r = derive-copy-clear limit C.Log l r
-derive-clear limit C.Power l r = derive-copy-clear limit C.Power l r
-derive-clear limit C.Negative l r = derive-unary-clear limit C.Negative (λ type. refl) l
+  derive-clear : (l r : Sheet) → Clear (derive limit c l r)
+  unfolding derive
+  derive-clear l r = go (familyOf c) refl
+    where
+      go : (f : Family) → familyOf c ≡ f → Clear (deriveBy limit c f l r)
+      go Fam.Unary e = derive-unary-clear (λ type. ap (λ (f : Family). isIntCopy f type) e) l
+      go Fam.Pair e = derive-pair-clear (λ type. ap (λ (f : Family). isIntCopy f type) e) l r
+      go Fam.Copy e = derive-copy-clear l r
 
 -- ---- the single call
 
@@ -231,7 +204,7 @@ step-clear F c node left right =
     let limit = F .categoryLimit in
     then-clear _
     (then-clear _ (read-clear F left)
-    (λ l. cond-clear (isUnary c) (derive-clear limit c l l) (then-clear _ (read-clear F right) (λ r. derive-clear limit c l r))))
+    (λ l. cond-clear (isUnary (familyOf c)) (derive-clear limit c l l) (then-clear _ (read-clear F right) (λ r. derive-clear limit c l r))))
     (λ s. value)
 
 chosen-code : (t : Bool) (a b : Outcome) → eqb (a .code) 25 ≡ false → eqb (b .code) 25 ≡ false → eqb (cond t a b .code) 25 ≡ false

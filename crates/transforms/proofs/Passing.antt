@@ -1,12 +1,12 @@
 -- What operands that passed their checks are known to be.
 --     unary-columns, pair-columns, copy-columns    the output columns are within their limits
---     reached                                      15 has kept categories on the right from Modulo and Int Power
+--     bounds-int, reached                          15 has kept categories on the right from Modulo and Int Power
 -- Assumes nothing.
 use mathlib.Core.Path.{_≡_, refl, sym, subst, _∙_}
 use mathlib.Core.Bool.{Bool, true, false, cond, not, _&&_}
 use mathlib.Core.List.{List, [], _∷_, _++_}
 use mathlib.Core.Option.{Option, none, some, Option·getD}
-use mathlib.Core.Logic.{_⊎_, inl, inr}
+use mathlib.Core.Logic.{_⊎_, inl, inr, ⊎-elim}
 use Prim.Native.Nat.{ℕ, _≤_, _<_}
 use native.Mathlib.Omega.{arith}
 use lib.Dec.{T, eqb}
@@ -15,21 +15,20 @@ use Rattle.numbers.specs.Result.{Check, check, firstFailing}
 use Rattle.utilities.specs.Lists.{every}
 use Rattle.utilities.proofs.Built.{both-hold}
 use Rattle.base.specs.Form.{narrow, byteAt, natureAt, isRangeNature, intType, floatType}
-use Rattle.base.specs.Sheet.{Fields, Nature, absent, wholeRange, floatRange, wholeLists, boolLists, floatLists}
+use Rattle.base.specs.Sheet.{Fields, Sheet, Nature, absent, wholeRange, floatRange, wholeLists, boolLists, floatLists}
 use Rattle.base.specs.Decode.{asFloat, asWhole, asBits, entries, lists, fieldsIn, natureIn, decode}
 use Rattle.base.specs.Checks.{fieldsFail}
-use Rattle.base.specs.Bounds.{isPresent, wholeLowersPresent, lowersPositive, lowersPresent, lowersNonNegative}
-use Rattle.base.specs.Components.{isUnary}
+use Rattle.base.specs.Bounds.{isPresent, wholeLowersPresent}
+use Rattle.base.specs.Components.{familyOf}
 use Rattle.base.specs.declared.Component.{Component}
 use Rattle.base.specs.declared.Component.the-variants as C
 use Rattle.base.proofs.Flags.{or-no}
 use Rattle.base.proofs.Permitted.{permitted, columns-within}
 use Rattle.shape.specs.Shape.{columnsOf, columnsAbsent, widest}
-use Rattle.shape.specs.Orders.{unaryChecks, pairChecks, copyChecks}
-use Rattle.shape.specs.Parts.{boundChecksOf}
+use Rattle.shape.specs.Orders.{unaryChecks, pairChecks, boundChecks, copyChecks}
 use Rattle.shape.proofs.Refusals.{Numbered}
 use Rattle.shape.proofs.Orders.{unary-numbered, pair-numbered, copy-numbered}
-use Rattle.transforms.specs.Code.{ruledByNumber, Reached, hasRule, isPair, isCopy}
+use Rattle.transforms.specs.Code.{isIntCopy, Reached}
 
 -- ---- checks in a row, none of which fails
 
@@ -87,14 +86,14 @@ module _ (left right : List ℕ) where
       let b = columns-limited right k (q .1) in
       rw (width, lh, rh) (omega arith, omega arith)
 
-  module _ (c : Component) (e : firstFailing (copyChecks (decode narrow left) (decode narrow right) (boundChecksOf c (decode narrow left) (decode narrow right))) ≡ 0) where
-    copy-passes : Passing (boundChecksOf c (decode narrow left) (decode narrow right)) × Passing (check 11 (columnsAbsent (fieldsIn narrow left)) ∷ [])
+  module _ (c : Component) (e : firstFailing (copyChecks c (decode narrow left) (decode narrow right)) ≡ 0) where
+    copy-passes : Passing (boundChecks c (decode narrow left) (decode narrow right)) × Passing (check 11 (columnsAbsent (fieldsIn narrow left)) ∷ [])
     unfolding decode
     copy-passes =
         let l = decode narrow left in
         let r = decode narrow right in
-        pass-parts (boundChecksOf c l r) (check 11 (columnsAbsent (fieldsIn narrow left)) ∷ [])
-        (all-pass (copyChecks l r (boundChecksOf c l r)) (copy-numbered l r c) e .1 .1 .1 .1)
+        pass-parts (boundChecks c l r) (check 11 (columnsAbsent (fieldsIn narrow left)) ∷ [])
+        (all-pass (copyChecks c l r) (copy-numbered l r c) e .1 .1 .1 .1)
 
     pub copy-columns : fieldsFail narrow left ≡ false → {x : Fields} {columns : ℕ} → x ≡ fieldsIn narrow left → columns ≡ columnsOf x → Limited columns
     copy-columns h head width = rw (width, head) (columns-limited left h (copy-passes .1 .0))
@@ -120,83 +119,41 @@ whole-is-range s e = let k = byteAt narrow natureAt s in go (eqb k 1) (eqb k 2) 
     go false false false false false whole h e = absurd (subst T (sym e) tt)
 
 -- the checks 14 to 16 of Modulo and Power; `cs` and `ds` are those behind 15, and those of two Float operands
-pub whole-types :
+whole-types :
     (a b : ℕ) (w : Bool) (cs ds : List Check)
     → Passing (cond (eqb a intType && eqb b intType) (check 15 (not w) ∷ cs) (cond (eqb a floatType && eqb b floatType) ds (check 14 true ∷ [])))
-    → (not (eqb a intType) ≡ true) ⊎ (w ≡ true)
+    → (eqb a intType ≡ false) ⊎ (w ≡ true)
 whole-types a b w cs ds p = go (eqb a intType) (eqb b intType) (eqb a floatType) refl refl p
   where
     go : (t u v : Bool) → eqb a intType ≡ t → eqb a floatType ≡ v
         → Passing (cond (t && u) (check 15 (not w) ∷ cs) (cond (v && eqb b floatType) ds (check 14 true ∷ [])))
-        → (not t ≡ true) ⊎ (w ≡ true)
+        → (t ≡ false) ⊎ (w ≡ true)
     go false u v x y p = inl refl
     go true true v x y p = inr (not-false w (p .0))
     go true false true x y p = absurd (let i = eqb-true a intType x in let j = eqb-true a floatType y in omega arith)
     go true false false x y p = absurd (subst T (p .0) tt)
 
-ranged :
-    (right : List ℕ) (type : ℕ) → (not (eqb type intType) ≡ true) ⊎ (wholeLowersPresent (natureIn narrow right) ≡ true)
-    → (not (eqb type intType) ≡ true) ⊎ (isRangeNature (byteAt narrow natureAt right) ≡ true)
-ranged right type (inl x) = inl x
-ranged right type (inr x) = inr (whole-is-range right x)
+-- on Int, right's bounds are whole
+pub bounds-int : (l r : Sheet) (c : Component) → Passing (boundChecks c l r)
+    → (isIntCopy (familyOf c) (l .fields .dataType) ≡ false) ⊎ (wholeLowersPresent (r .nature) ≡ true)
+bounds-int l r C.Abs p = inl refl
+bounds-int l r C.Add p = inl refl
+bounds-int l r C.Subtract p = inl refl
+bounds-int l r C.Multiply p = inl refl
+bounds-int l r C.Divide p = inl refl
+bounds-int l r C.Modulo p = whole-types (l .fields .dataType) (r .fields .dataType) (wholeLowersPresent (r .nature)) _ _ p
+bounds-int l r C.Log p = inl (rw (eqb-true (l .fields .dataType) floatType (not-false (eqb (l .fields .dataType) floatType) (p .0))))
+bounds-int l r C.Power p = whole-types (l .fields .dataType) (r .fields .dataType) (wholeLowersPresent (r .nature)) _ _ p
+bounds-int l r C.Negative p = inl refl
 
 pub reached :
     (left right : List ℕ) (c : Component) {x : Fields} → x ≡ fieldsIn narrow left
-    → firstFailing (copyChecks (decode narrow left) (decode narrow right) (boundChecksOf c (decode narrow left) (decode narrow right))) ≡ 0
+    → firstFailing (copyChecks c (decode narrow left) (decode narrow right)) ≡ 0
     → Reached c (x .dataType) right
 unfolding decode
-reached left right C.Abs h e = inl refl
-reached left right C.Add h e = inl refl
-reached left right C.Subtract h e = inl refl
-reached left right C.Multiply h e = inl refl
-reached left right C.Divide h e = inl refl
-reached left right C.Modulo h e =
-    let k = natureIn narrow right in
-    let positive = check 16 (not (lowersPositive k)) ∷ [] in
+reached left right c h e =
     rw h
-    (ranged right (fieldsIn narrow left .dataType)
-    (whole-types (fieldsIn narrow left .dataType) (fieldsIn narrow right .dataType) (wholeLowersPresent k) positive (check 15 (not (lowersPresent k)) ∷ positive)
-    (copy-passes left right C.Modulo e .0)))
-reached left right C.Log h e = inl refl
-reached left right C.Power h e =
-    let k = natureIn narrow right in
-    rw h
-    (ranged right (fieldsIn narrow left .dataType)
-    (whole-types (fieldsIn narrow left .dataType) (fieldsIn narrow right .dataType) (wholeLowersPresent k) (check 16 (not (lowersNonNegative k)) ∷ []) []
-    (copy-passes left right C.Power e .0)))
-reached left right C.Negative h e = inl refl
-
--- ---- components
-
-pub pair-ruled : (c : Component) (type : ℕ) → isPair c ≡ true → ruledByNumber c type ≡ true
-pair-ruled C.Abs type e = refl
-pair-ruled C.Add type e = refl
-pair-ruled C.Subtract type e = refl
-pair-ruled C.Multiply type e = refl
-pair-ruled C.Divide type e = refl
-pair-ruled C.Modulo type e = absurd (subst T (sym e) tt)
-pair-ruled C.Log type e = refl
-pair-ruled C.Power type e = absurd (subst T (sym e) tt)
-pair-ruled C.Negative type e = refl
-
-pub unary-ruled : (c : Component) → isUnary c ≡ true → hasRule c ≡ true
-unary-ruled C.Abs e = refl
-unary-ruled C.Add e = refl
-unary-ruled C.Subtract e = refl
-unary-ruled C.Multiply e = refl
-unary-ruled C.Divide e = refl
-unary-ruled C.Modulo e = absurd (subst T (sym e) tt)
-unary-ruled C.Log e = absurd (subst T (sym e) tt)
-unary-ruled C.Power e = absurd (subst T (sym e) tt)
-unary-ruled C.Negative e = refl
-
-pub else-pair : (c : Component) → isUnary c ≡ false → isCopy c ≡ false → isPair c ≡ true
-else-pair C.Abs e f = absurd (subst T e tt)
-else-pair C.Add e f = refl
-else-pair C.Subtract e f = refl
-else-pair C.Multiply e f = refl
-else-pair C.Divide e f = refl
-else-pair C.Modulo e f = absurd (subst T f tt)
-else-pair C.Log e f = absurd (subst T f tt)
-else-pair C.Power e f = absurd (subst T f tt)
-else-pair C.Negative e f = absurd (subst T e tt)
+    (⊎-elim
+    (λ x. inl x)
+    (λ x. inr (whole-is-range right x))
+    (bounds-int (decode narrow left) (decode narrow right) c (copy-passes left right c e .0)))

@@ -19,6 +19,7 @@ use Rattle.base.specs.Sheet.{Nature, absent, wholeRange, floatRange, wholeLists
 use Rattle.base.specs.Decode.{asWhole, asFloat, asBits, natureIn, entries}
 use Rattle.base.specs.Encode.{natureNumber, entryCount}
 use Rattle.base.specs.Checks.{bytesPermitted, flagPermitted, holdsFrom}
+use Rattle.base.specs.Components.{familyOf}
 use Rattle.base.specs.declared.Component.{Component}
 use Rattle.base.specs.declared.Component.the-variants as C
 use Rattle.base.proofs.Flags.{and-both}
@@ -250,7 +251,7 @@ module _ (limit : ℕ) (c : Component) (type columns : ℕ) where
   alone-lists (floatLists ls) p n = refl
 
 -- Modulo alone has another rule for whole ranges than its end rule
-ruled-whole : (c : Component) (type : ℕ) → hasRule c ≡ true → wholeRule c type ≡ endRule whole c
+ruled-whole : (c : Component) (type : ℕ) → hasRule (familyOf c) ≡ true → wholeRule c type ≡ endRule whole c
 unfolding wholeRule
 ruled-whole C.Abs type h = refl
 ruled-whole C.Add type h = refl
@@ -262,7 +263,7 @@ ruled-whole C.Log type h = absurd (yes-no (sym h))
 ruled-whole C.Power type h = absurd (yes-no (sym h))
 ruled-whole C.Negative type h = refl
 
-module _ (limit : ℕ) (c : Component) (type columns : ℕ) (has : hasRule c ≡ true) (s : List ℕ) where
+module _ (limit : ℕ) (c : Component) (type columns : ℕ) (has : hasRule (familyOf c) ≡ true) (s : List ℕ) where
   alone-whole : byteAt narrow natureAt s ≡ 1 → unaryNature limit c type columns (natureIn narrow s) ≡ rangeNature narrow false c type columns s s
   unfolding unaryNature rangeNature
   alone-whole e = rw (nature-whole-range narrow s e, ruled-whole c type has, alone-is (endRule whole c) columns (entries narrow s asWhole))

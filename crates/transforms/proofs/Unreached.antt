@@ -20,12 +20,14 @@ use Rattle.utilities.proofs.Built.{both-hold}
 use Rattle.base.specs.Form.{intType, floatType}
 use Rattle.base.specs.Sheet.{Sheet, Nature, absent, wholeRange, floatRange, wholeLists, boolLists, floatLists, isWholeRange}
 use Rattle.base.specs.Bounds.{everyEntry, lowersPresent, wholeLowersPresent}
+use Rattle.base.specs.Components.{familyOf}
 use Rattle.base.specs.declared.Component.{Component}
 use Rattle.base.specs.declared.Component.the-variants as C
+use Rattle.base.specs.declared.Family.the-variants as Fam
 use Rattle.categories.specs.Categories.{categoryRule}
 use Rattle.shape.specs.Shape.{columnsOf, columnsAbsent}
-use Rattle.shape.specs.Orders.{bothOf, powerChecks, copyChecks}
-use Rattle.shape.specs.Parts.{boundChecksOf}
+use Rattle.shape.specs.Orders.{bothOf, boundChecks, copyChecks}
+use Rattle.shape.proofs.Orders.{chosen}
 use Rattle.transforms.specs.Natures.{ruleFor, bothListChecks, listsPair, listsWith, binaryNature}
 use Rattle.transforms.specs.Derive.{deriveCopy, derive}
 use Rattle.transforms.specs.Unreached.{RefusedWith, isLists, readsRight}
@@ -89,16 +91,11 @@ no-whole-lowers k e = and-no (isWholeRange k) (lowersPresent k) (no-lowers k e)
 abbrev early : List ℕ
 early = 6 ∷ 7 ∷ 14 ∷ 15 ∷ []
 
-choice-stops : (a b : Bool) (xs ys zs : List Check) → Stops early xs → Stops early ys → Stops early zs → Stops early (cond a xs (cond b ys zs))
-choice-stops true b xs ys zs x y z = x
-choice-stops false true xs ys zs x y z = y
-choice-stops false false xs ys zs x y z = z
-
 int-no-float : (a b : ℕ) → eqb a intType ≡ true → (eqb a floatType && eqb b floatType) ≡ false
 int-no-float a b e = rw (eqb-true a intType e)
 
--- 14 or 15 fails
-bounds-stop : (c : Component) (l r : Sheet) → readsRight c (l .fields .dataType) ≡ true → isLists (r .nature) ≡ true → Stops early (boundChecksOf c l r)
+-- a component that reads right's bounds copies left, and 14 or 15 fails
+bounds-stop : (c : Component) (l r : Sheet) → readsRight c (l .fields .dataType) ≡ true → isLists (r .nature) ≡ true → (familyOf c ≡ Fam.Copy) × Stops early (boundChecks c l r)
 unfolding has
 bounds-stop C.Abs l r e h = absurd (subst T (sym e) tt)
 bounds-stop C.Add l r e h = absurd (subst T (sym e) tt)
@@ -106,36 +103,23 @@ bounds-stop C.Subtract l r e h = absurd (subst T (sym e) tt)
 bounds-stop C.Multiply l r e h = absurd (subst T (sym e) tt)
 bounds-stop C.Divide l r e h = absurd (subst T (sym e) tt)
 bounds-stop C.Modulo l r e h =
-    choice-stops (bothOf l r intType) (bothOf l r floatType) _ _ _ (refl, inl (rw (no-whole-lowers (r .nature) h))) (refl, inl (rw (no-lowers (r .nature) h))) (refl, inl refl)
-bounds-stop C.Log l r e h = (refl, inr (refl, inl (rw (no-lowers (r .nature) h))))
+    (refl, chosen (Stops early) (bothOf l r intType) (bothOf l r floatType) (refl, inl (rw (no-whole-lowers (r .nature) h))) (refl, inl (rw (no-lowers (r .nature) h))) (refl, inl refl))
+bounds-stop C.Log l r e h = (refl, (refl, inr (refl, inl (rw (no-lowers (r .nature) h)))))
 bounds-stop C.Power l r e h =
     let floats : bothOf l r floatType ≡ false = int-no-float (l .fields .dataType) (r .fields .dataType) e in
-    rw floats (choice-stops (bothOf l r intType) true _ (check 14 true ∷ []) (check 14 true ∷ []) (refl, inl (rw (no-whole-lowers (r .nature) h))) (refl, inl refl) (refl, inl refl))
+    (refl, rw floats (chosen (Stops early) (bothOf l r intType) true {ys = check 14 true ∷ []} {zs = check 14 true ∷ []} (refl, inl (rw (no-whole-lowers (r .nature) h))) (refl, inl refl) (refl, inl refl)))
 bounds-stop C.Negative l r e h = absurd (subst T (sym e) tt)
-
-derive-copies : (limit : ℕ) (c : Component) (l r : Sheet) → readsRight c (l .fields .dataType) ≡ true
-    → derive limit c l r ≡ deriveCopy limit c (boundChecksOf c l r) l r
-unfolding derive
-derive-copies limit C.Abs l r e = absurd (subst T (sym e) tt)
-derive-copies limit C.Add l r e = absurd (subst T (sym e) tt)
-derive-copies limit C.Subtract l r e = absurd (subst T (sym e) tt)
-derive-copies limit C.Multiply l r e = absurd (subst T (sym e) tt)
-derive-copies limit C.Divide l r e = absurd (subst T (sym e) tt)
-derive-copies limit C.Modulo l r e = refl
-derive-copies limit C.Log l r e = refl
-derive-copies limit C.Power l r e = refl
-derive-copies limit C.Negative l r e = absurd (subst T (sym e) tt)
 
 -- the component reads right's bounds, and categories have none: no rule for categories is reached, whatever left is
 pub categories-unreached :
     (limit : ℕ) (c : Component) (l r : Sheet) → readsRight c (l .fields .dataType) ≡ true → isLists (r .nature) ≡ true
     → RefusedWith (6 ∷ 7 ∷ 14 ∷ 15 ∷ []) (derive limit c l r)
-unfolding deriveCopy has
+unfolding derive deriveCopy has
 categories-unreached limit c l r e h =
-    let bounds = boundChecksOf c l r in
-    rw (derive-copies limit c l r e)
-    (stopped early _ (copyChecks l r bounds)
-    (refl, inr (refl, inr (refl, inr (refl, inr (stops-longer early bounds (check 11 (columnsAbsent (l .fields)) ∷ []) (bounds-stop c l r e h)))))))
+    let stop = bounds-stop c l r e h in
+    rw (stop .0)
+    (stopped early _ (copyChecks c l r)
+    (refl, inr (refl, inr (refl, inr (refl, inr (stops-longer early (boundChecks c l r) (check 11 (columnsAbsent (l .fields)) ∷ []) (stop .1)))))))
 
 -- ---- Power of other types
 
@@ -191,6 +175,6 @@ pub float-power-refused :
 unfolding derive deriveCopy every has
 float-power-refused limit l r e g h =
     let w = nature-refused limit (l .fields .dataType) (columnsOf (l .fields)) e (l .nature) (r .nature) g h in
-    refused-after unruled _ (copyChecks l r (powerChecks l r))
+    refused-after unruled _ (copyChecks C.Power l r)
     (power-listed (bothOf l r intType) (bothOf l r floatType) (columnsAbsent (l .fields)) _ (rw e))
     (record { number = w .number; among = w .among; is = then-refused _ (w .is) })

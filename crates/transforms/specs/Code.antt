@@ -1,6 +1,6 @@
 -- What the code of the single step asks for, and what it answers.
 use mathlib.Core.Path.{_≡_}
-use mathlib.Core.Bool.{Bool, true, false, not}
+use mathlib.Core.Bool.{Bool, true, false}
 use mathlib.Core.List.{List}
 use mathlib.Core.Logic.{_⊎_}
 use Prim.Native.Nat.{ℕ, _≤_, _<_}
@@ -11,8 +11,10 @@ use Rattle.bytes.specs.declared.Put.the-variants as U
 use Rattle.numbers.specs.Result.{Result, ok, refused}
 use Rattle.base.specs.Form.{narrow, byteAt, natureAt, isRangeNature, intType}
 use Rattle.base.specs.Checks.{sizesFail, fieldsFail}
+use Rattle.base.specs.Components.{familyOf}
 use Rattle.base.specs.declared.Component.{Component}
-use Rattle.base.specs.declared.Component.the-variants as C
+use Rattle.base.specs.declared.Family.{Family}
+use Rattle.base.specs.declared.Family.the-variants as Fam
 use Rattle.writer.specs.Written.{firstRoom, secondRoom}
 use Rattle.writer.specs.declared.Derived.{Derived}
 use Rattle.writer.specs.declared.Derived.the-variants as D
@@ -23,18 +25,6 @@ pub record Read (s : List ℕ) : Type 0 where
   pub sizes : sizesFail narrow s ≡ false
   pub fields : fieldsFail narrow s ≡ false
 
--- a component has no rule of its own for categories on a type: Modulo and Power of type Int have one, which 15 keeps every call from
-abbrev pub ruledByNumber : Component → ℕ → Bool
-ruledByNumber C.Abs type = true
-ruledByNumber C.Add type = true
-ruledByNumber C.Subtract type = true
-ruledByNumber C.Multiply type = true
-ruledByNumber C.Divide type = true
-ruledByNumber C.Modulo type = not (eqb type intType)
-ruledByNumber C.Log type = true
-ruledByNumber C.Power type = not (eqb type intType)
-ruledByNumber C.Negative type = true
-
 -- what deriving a nature asks of the output columns and of the two buffers
 pub record Ready (columns : ℕ) (first second : List ℕ) : Type 0 where
   pub some-column : 0 < columns
@@ -42,9 +32,15 @@ pub record Ready (columns : ℕ) (first second : List ℕ) : Type 0 where
   pub first-room : firstRoom ≤ length first
   pub second-room : secondRoom ≤ length second
 
--- 15 has kept category pairs from Modulo and Int Power
+-- Modulo, Log and Power of type Int: the rules for categories that Modulo and Power have are on this type
+abbrev pub isIntCopy : Family → ℕ → Bool
+isIntCopy Fam.Unary type = false
+isIntCopy Fam.Pair type = false
+isIntCopy Fam.Copy type = eqb type intType
+
+-- 15 has kept category pairs from these
 abbrev pub Reached : Component → ℕ → List ℕ → Type 0
-Reached c type right = (ruledByNumber c type ≡ true) ⊎ (isRangeNature (byteAt narrow natureAt right) ≡ true)
+Reached c type right = (isIntCopy (familyOf c) type ≡ false) ⊎ (isRangeNature (byteAt narrow natureAt right) ≡ true)
 
 -- the bytes that a step left at the start of a buffer, or its refusal
 abbrev pub stepIn : Put → List ℕ → Result (List ℕ)
@@ -67,39 +63,11 @@ pub record Lists (s : List ℕ) : Type 0 where
   pub present : eqb (byteAt narrow natureAt s) 0 ≡ false
   pub no-range : isRangeNature (byteAt narrow natureAt s) ≡ false
 
-abbrev pub hasRule : Component → Bool
-hasRule C.Abs = true
-hasRule C.Add = true
-hasRule C.Subtract = true
-hasRule C.Multiply = true
-hasRule C.Divide = true
-hasRule C.Modulo = false
-hasRule C.Log = false
-hasRule C.Power = false
-hasRule C.Negative = true
-
--- 2 to 5, and 6 to 8
-abbrev pub isPair : Component → Bool
-isPair C.Abs = false
-isPair C.Add = true
-isPair C.Subtract = true
-isPair C.Multiply = true
-isPair C.Divide = true
-isPair C.Modulo = false
-isPair C.Log = false
-isPair C.Power = false
-isPair C.Negative = false
-
-abbrev pub isCopy : Component → Bool
-isCopy C.Abs = false
-isCopy C.Add = false
-isCopy C.Subtract = false
-isCopy C.Multiply = false
-isCopy C.Divide = false
-isCopy C.Modulo = true
-isCopy C.Log = true
-isCopy C.Power = true
-isCopy C.Negative = false
+-- there is code for the family's rules for whole categories
+abbrev pub hasRule : Family → Bool
+hasRule Fam.Unary = true
+hasRule Fam.Pair = true
+hasRule Fam.Copy = false
 
 -- the refusal that a derived nature is (0 where it is none)
 abbrev pub refusalOf : Derived → Put

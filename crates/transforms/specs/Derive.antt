@@ -1,13 +1,14 @@
 -- `propagate_property` on sheets: the checks of a component in their order, and the sheet that it derives. No rule reads a node number.
-use mathlib.Core.List.{List}
 use Prim.Native.Nat.{ℕ}
-use Rattle.numbers.specs.Result.{Result, ok, andThen, Check, checked}
+use Rattle.numbers.specs.Result.{Result, ok, andThen, checked}
 use Rattle.base.specs.Sheet.{Sheet}
+use Rattle.base.specs.Components.{familyOf}
 use Rattle.base.specs.declared.Component.{Component}
-use Rattle.base.specs.declared.Component.the-variants as C
+use Rattle.base.specs.declared.Family.{Family}
+use Rattle.base.specs.declared.Family.the-variants as Fam
 use Rattle.shape.specs.Shape.{columnsOf, widest}
 use Rattle.transforms.specs.Natures.{unaryNature, binaryNature}
-use Rattle.shape.specs.Orders.{unaryChecks, pairChecks, copyChecks, moduloChecks, logChecks, powerChecks, lastChecks}
+use Rattle.shape.specs.Orders.{unaryChecks, pairChecks, copyChecks, lastChecks}
 use Rattle.shape.specs.Fields.{pairSheet, copySheet, unarySheet}
 
 -- `limit` is how many categories a result may hold
@@ -25,18 +26,15 @@ module _ (limit : ℕ) (c : Component) where
       (andThen (binaryNature limit c (l .fields .dataType) (widest (l .fields) (r .fields)) (l .nature) (r .nature)) (λ k. ok (pairSheet c l r k)))
 
   -- Modulo, Log, Power: 6, 7, 14, 15, 16, 11, then 17 to 26, then 8
-  unfoldable pub deriveCopy : List Check → Sheet → Sheet → Result Sheet
-  deriveCopy boundChecks l r =
-      checked (copyChecks l r boundChecks)
+  unfoldable pub deriveCopy : Sheet → Sheet → Result Sheet
+  deriveCopy l r =
+      checked (copyChecks c l r)
       (andThen (binaryNature limit c (l .fields .dataType) (columnsOf (l .fields)) (l .nature) (r .nature)) (λ k. checked (lastChecks l r) (ok (copySheet l r k))))
 
-unfoldable pub derive : ℕ → Component → Sheet → Sheet → Result Sheet
-derive limit C.Abs l r = deriveUnary limit C.Abs l
-derive limit C.Add l r = derivePair limit C.Add l r
-derive limit C.Subtract l r = derivePair limit C.Subtract l r
-derive limit C.Multiply l r = derivePair limit C.Multiply l r
-derive limit C.Divide l r = derivePair limit C.Divide l r
-derive limit C.Modulo l r = deriveCopy limit C.Modulo (moduloChecks l r) l r
-derive limit C.Log l r = deriveCopy limit C.Log (logChecks l r) l r
-derive limit C.Power l r = deriveCopy limit C.Power (powerChecks l r) l r
-derive limit C.Negative l r = deriveUnary limit C.Negative l
+  abbrev pub deriveBy : Family → Sheet → Sheet → Result Sheet
+  deriveBy Fam.Unary l r = deriveUnary l
+  deriveBy Fam.Pair l r = derivePair l r
+  deriveBy Fam.Copy l r = deriveCopy l r
+
+  unfoldable pub derive : Sheet → Sheet → Result Sheet
+  derive l r = deriveBy (familyOf c) l r

@@ -10,7 +10,7 @@ use Rattle.base.specs.Form.{Form}
 use Rattle.base.specs.Sheet.{Sheet}
 use Rattle.base.specs.Checks.{read}
 use Rattle.base.specs.Encode.{encode}
-use Rattle.base.specs.Components.{componentOf, isUnary}
+use Rattle.base.specs.Components.{componentOf, familyOf, isUnary}
 use Rattle.base.specs.declared.Component.{Component}
 use Rattle.base.specs.declared.Numbered.{Numbered}
 use Rattle.base.specs.declared.Numbered.the-variants as N
@@ -21,11 +21,11 @@ use Rattle.transforms.specs.Derive.{derive}
 unfoldable pub stepSheet : Form → Component → List ℕ → List ℕ → Result Sheet
 stepSheet F c left right =
     andThen (read F left)
-    (λ l. cond (isUnary c) (derive (F .categoryLimit) c l l) (andThen (read F right) (λ r. derive (F .categoryLimit) c l r)))
+    (λ l. cond (isUnary (familyOf c)) (derive (F .categoryLimit) c l l) (andThen (read F right) (λ r. derive (F .categoryLimit) c l r)))
 
 -- the bytes that a component derives of its operands' bytes
 unfoldable pub step : Form → Component → ℕ → List ℕ → List ℕ → Result (List ℕ)
-step F c node left right = andThen (stepSheet F c left right) (λ s. ok (encode F (numbered c node s)))
+step F c node left right = andThen (stepSheet F c left right) (λ s. ok (encode F (numbered (familyOf c) node s)))
 
 -- a reply, and the lent bytes afterwards
 pub record Outcome : Type 0 where

@@ -1,5 +1,6 @@
 // The single step: `propagate_property` of the nine components, from the operands' bytes to the derived sheet's.
 use base::Component;
+use base::Family;
 use base::Head;
 use base::form;
 use base::refusals;
@@ -7,21 +8,24 @@ use bytes::Put;
 use writer::Derived;
 use writer::Parts;
 ghost use mathlib.Core.Path.{_≡_};
-ghost use mathlib.Core.Bool.{true, cond};
+ghost use mathlib.Core.Bool.{cond};
 ghost use Prim.Native.Nat.{_≤_};
+ghost use lib.IntN.{pos};
 ghost use lib.ListN.{length, take};
 ghost use Rattle.numbers.specs.Result.{ok, andThen};
 ghost use Rattle.base.specs.Form.{narrow, longest};
 ghost use Rattle.base.specs.Decode.{decode, groupsIn};
-ghost use Rattle.base.specs.Code.{headFields};
+ghost use Rattle.base.specs.Checks.{read};
+ghost use Rattle.base.specs.Code.{headFields, codeOf};
 ghost use Rattle.writer.specs.Room.{Room};
 ghost use Rattle.writer.specs.Written.{sheetFrom, partsIn};
 ghost use Rattle.base.specs.Encode.{encode};
-ghost use Rattle.base.specs.Components.{isUnary};
-ghost use Rattle.shape.specs.Fields.{numbered};
-ghost use Rattle.transforms.specs.Derive.{deriveUnary, derivePair, derive};
+ghost use Rattle.base.specs.Components.{familyOf, isUnary};
+ghost use Rattle.base.specs.declared.Family.the-variants as Fam;
+ghost use Rattle.shape.specs.Fields.{withNode};
+ghost use Rattle.transforms.specs.Derive.{deriveUnary, derivePair, deriveCopy};
 ghost use Rattle.transforms.specs.Single.{step, delivery};
-ghost use Rattle.transforms.specs.Code.{Read, isPair, isCopy, stepIn, Held, given, refusalOf};
+ghost use Rattle.transforms.specs.Code.{Read, stepIn, Held, given, refusalOf};
 
 mod natures;
 
@@ -42,7 +46,7 @@ fn refusal(derived: Derived) -> Put
 
 // Abs and Negative copy their operand but for its nature.
 fn step_unary(c: Component, left: &[u8], out: &mut [u8]) -> Put
-    requires { ⌜ Read (now left) × (isUnary c ≡ true) × (longest narrow ≤ length (now out)) ⌝ }
+    requires { ⌜ Read (now left) × (familyOf c ≡ Fam.Unary) × (longest narrow ≤ length (now out)) ⌝ }
     ensures { λ r. ⌜ (stepIn r (now (out .exit)) ≡ andThen (deriveUnary (narrow .categoryLimit) c (decode narrow (now (left .entry)))) (λ s. ok (encode narrow s))) × Held r (length (now (out .entry))) ⌝ }
 {
     let h = base::read_head(left);
@@ -98,8 +102,8 @@ fn put_pair(
 
 // Add, Subtract, Multiply and Divide.
 fn step_pair(c: Component, node: u32, left: &[u8], right: &[u8], out: &mut [u8]) -> Put
-    requires { ⌜ Read (now left) × Read (now right) × (isPair c ≡ true) × (longest narrow ≤ length (now out)) ⌝ }
-    ensures { λ r. ⌜ (stepIn r (now (out .exit)) ≡ andThen (derivePair (narrow .categoryLimit) c (decode narrow (now (left .entry))) (decode narrow (now (right .entry)))) (λ s. ok (encode narrow (numbered c node s)))) × Held r (length (now (out .entry))) ⌝ }
+    requires { ⌜ Read (now left) × Read (now right) × (familyOf c ≡ Fam.Pair) × (longest narrow ≤ length (now out)) ⌝ }
+    ensures { λ r. ⌜ (stepIn r (now (out .exit)) ≡ andThen (derivePair (narrow .categoryLimit) c (decode narrow (now (left .entry))) (decode narrow (now (right .entry)))) (λ s. ok (encode narrow (withNode (pos node) s)))) × Held r (length (now (out .entry))) ⌝ }
 {
     let l = base::read_head(left);
     let r = base::read_head(right);
@@ -138,26 +142,9 @@ fn step_pair(c: Component, node: u32, left: &[u8], right: &[u8], out: &mut [u8])
 }
 
 // Modulo, Log and Power copy left but for a few fields.
-fn is_copy(c: Component) -> bool
-    ensures { λ r. ⌜ r ≡ isCopy c ⌝ }
-{
-    match c {
-        Component::Abs => false,
-        Component::Add => false,
-        Component::Subtract => false,
-        Component::Multiply => false,
-        Component::Divide => false,
-        Component::Modulo => true,
-        Component::Log => true,
-        Component::Power => true,
-        Component::Negative => false,
-    }
-}
-
-// Modulo, Log and Power.
 fn step_copy(c: Component, left: &[u8], right: &[u8], out: &mut [u8]) -> Put
-    requires { ⌜ Read (now left) × Read (now right) × (isCopy c ≡ true) × (longest narrow ≤ length (now out)) ⌝ }
-    ensures { λ r. ⌜ (stepIn r (now (out .exit)) ≡ andThen (derive (narrow .categoryLimit) c (decode narrow (now (left .entry))) (decode narrow (now (right .entry)))) (λ s. ok (encode narrow s))) × Held r (length (now (out .entry))) ⌝ }
+    requires { ⌜ Read (now left) × Read (now right) × (familyOf c ≡ Fam.Copy) × (longest narrow ≤ length (now out)) ⌝ }
+    ensures { λ r. ⌜ (stepIn r (now (out .exit)) ≡ andThen (deriveCopy (narrow .categoryLimit) c (decode narrow (now (left .entry))) (decode narrow (now (right .entry)))) (λ s. ok (encode narrow s))) × Held r (length (now (out .entry))) ⌝ }
 {
     let l = base::read_head(left);
     let r = base::read_head(right);
@@ -189,6 +176,16 @@ fn step_copy(c: Component, left: &[u8], right: &[u8], out: &mut [u8]) -> Put
     Put::At(put_pair(out, p, &first, &second, h, node, left, right, l.releasable))
 }
 
+// 3 to 5 of the right sheet, where the family reads it.
+fn right_code(family: Family, right: &[u8]) -> u32
+    ensures { λ r. ⌜ r ≡ cond (isUnary family) 0 (codeOf (read narrow (now (right .entry)))) ⌝ }
+{
+    if family.is_unary() {
+        return 0;
+    }
+    base::check_sheet(right)
+}
+
 // The derived sheet at the start of a buffer that holds the longest, or the refusal.
 pub fn step(c: Component, node: u32, left: &[u8], right: &[u8], out: &mut [u8]) -> Put
     requires { ⌜ longest narrow ≤ length (now out) ⌝ }
@@ -198,17 +195,16 @@ pub fn step(c: Component, node: u32, left: &[u8], right: &[u8], out: &mut [u8]) 
     if k != 0 {
         return Put::Refused(k);
     }
-    if c.is_unary() {
-        return step_unary(c, left, out);
-    }
-    let m = base::check_sheet(right);
+    let family = c.family();
+    let m = right_code(family, right);
     if m != 0 {
         return Put::Refused(m);
     }
-    if is_copy(c) {
-        return step_copy(c, left, right, out);
+    match family {
+        Family::Unary => step_unary(c, left, out),
+        Family::Pair => step_pair(c, node, left, right, out),
+        Family::Copy => step_copy(c, left, right, out),
     }
-    step_pair(c, node, left, right, out)
 }
 
 // Delivers what a step left at the start of `scratch`, or refuses with 27. A refusal leaves every byte of `out` as it was.

@@ -1,5 +1,6 @@
 // `propagate_unary_nature` and `propagate_binary_nature`: 17 to 26, and the nature derived, its arrays at the start of two lent buffers.
 use base::Component;
+use base::Family;
 use base::form;
 use base::refusals;
 use writer::Derived;
@@ -12,6 +13,7 @@ ghost use lib.Dec.{eqb};
 ghost use Rattle.numbers.specs.Result.{ok, check, firstFailing};
 ghost use Rattle.base.specs.Form.{narrow, floatListsNature};
 ghost use Rattle.base.specs.Sheet.{absent};
+ghost use Rattle.base.specs.Components.{familyOf};
 ghost use Rattle.base.specs.Decode.{natureIn};
 ghost use Rattle.writer.specs.Written.{inWriting, derivedIn, Within};
 ghost use Rattle.transforms.specs.Natures.{listsPair, listsAlone, unaryNature, binaryNature};
@@ -43,20 +45,15 @@ fn lists_code(nature: u8, lists: usize) -> u32
     0
 }
 
-// Whether a component has a rule for whole categories. Those of Modulo and Int Power are never asked: 15 comes first.
+// Whether there is code for the rule for whole categories. Those of Modulo and Int Power are never asked: 15 comes first.
 fn has_rule(c: Component) -> bool
-    ensures { λ r. ⌜ r ≡ hasRule c ⌝ }
+    ensures { λ r. ⌜ r ≡ hasRule (familyOf c) ⌝ }
 {
-    match c {
-        Component::Abs => true,
-        Component::Add => true,
-        Component::Subtract => true,
-        Component::Multiply => true,
-        Component::Divide => true,
-        Component::Modulo => false,
-        Component::Log => false,
-        Component::Power => false,
-        Component::Negative => true,
+    let family = c.family();
+    match family {
+        Family::Unary => true,
+        Family::Pair => true,
+        Family::Copy => false,
     }
 }
 
@@ -106,7 +103,7 @@ fn propagate_unary_categorical_nature(
     first: &mut [u8],
     second: &mut [u8],
 ) -> Derived
-    requires { ⌜ Lists (now s) × Ready columns (now first) (now second) × (hasRule c ≡ true) ⌝ }
+    requires { ⌜ Lists (now s) × Ready columns (now first) (now second) × (hasRule (familyOf c) ≡ true) ⌝ }
     ensures { λ r. ⌜ (derivedIn r (now (first .exit)) (now (second .exit)) ≡ inWriting narrow (listsAlone (narrow .categoryLimit) c data_type columns (natureIn narrow (now (s .entry))))) × Within r ⌝ }
 {
     let x = s[form::NATURE_AT];
@@ -174,7 +171,7 @@ pub fn propagate_unary_nature(
     first: &mut [u8],
     second: &mut [u8],
 ) -> Derived
-    requires { ⌜ Read (now s) × Ready columns (now first) (now second) × (hasRule c ≡ true) ⌝ }
+    requires { ⌜ Read (now s) × Ready columns (now first) (now second) × (hasRule (familyOf c) ≡ true) ⌝ }
     ensures { λ r. ⌜ (derivedIn r (now (first .exit)) (now (second .exit)) ≡ inWriting narrow (unaryNature (narrow .categoryLimit) c data_type columns (natureIn narrow (now (s .entry))))) × Within r ⌝ }
 {
     let x = s[form::NATURE_AT];

@@ -21,7 +21,7 @@ returns : tie.Need-returns
 returns c =
     let code = c .before in
     let start = code .before .before .before .before .before .before in
-    (copy-refused (start .args .c) (start .pre .2) (now (start .args .left)) (now (start .args .right)) (code .copy-code .ensures) (c .if1 .taken), tt)
+    (copy-refused (start .args .c) (now (start .args .left)) (now (start .args .right)) (code .copy-code .ensures) (c .if1 .taken), tt)
 
 propagate-binary-nature-requires : tie.Need-propagate-binary-nature-requires
 propagate-binary-nature-requires c κs =
@@ -47,7 +47,7 @@ returns-2 c =
     let code = width .before .before in
     let start = code .before .before .before .before .before .before in
     rw (c .refusal .ensures, told) (
-      (copy-nature-refused (start .args .c) (start .pre .2) (now (start .args .left)) (now (start .args .right)) (code .copy-code .ensures)
+      (copy-nature-refused (start .args .c) (now (start .args .left)) (now (start .args .right)) (code .copy-code .ensures)
           (code .before .before .read-head .ensures) (width .columns-of .ensures) (width .before .if1 .left)
           (rw told at (nature .propagate-binary-nature .ensures .0))),
       tt,
@@ -65,7 +65,7 @@ returns-3 c =
     let width = nature .before .before .before in
     let code = width .before .before in
     let start = code .before .before .before .before .before .before in (
-      copy-last-refused (start .args .c) (start .pre .2) (now (start .args .left)) (now (start .args .right)) (code .copy-code .ensures)
+      copy-last-refused (start .args .c) (now (start .args .left)) (now (start .args .right)) (code .copy-code .ensures)
           (code .before .before .read-head .ensures) (width .columns-of .ensures) (width .before .if1 .left)
           (rw (last .before .before .derived .given .1) at (nature .propagate-binary-nature .ensures .0))
           (last .last-code .ensures) (c .if2 .taken),
@@ -92,7 +92,7 @@ returns-4 c =
     let code = width .before .before in
     let start = code .before .before .before .before .before .before in
     let back : toZ w64 (ofZ w64 (node .node-at .result)) ≡ node .node-at .result = search needs in (
-      copy-written (start .args .c) (start .pre .2) (now (start .args .left)) (now (start .args .right)) (code .copy-code .ensures)
+      copy-written (start .args .c) (now (start .args .left)) (now (start .args .right)) (code .copy-code .ensures)
           (code .before .before .read-head .ensures) (width .columns-of .ensures) (width .before .if1 .left)
           (rw (put .before .before .before .before .before .before .before .before .before .derived .given .1) at (nature .propagate-binary-nature .ensures .0))
           (last .last-code .ensures) (put .before .before .before .before .before .before .if2 .left) (code .before .read-head2 .ensures) (put .before .before .before .before .before .copy-head .ensures)

@@ -1,5 +1,5 @@
 -- `transforms::step_pair` meets its contract. Assumes nothing.
-use mathlib.Core.Path.{_≡_, sym, _∙_}
+use mathlib.Core.Path.{_≡_, sym, ap, _∙_}
 use mathlib.Core.Logic.{inl}
 use Prim.Native.Nat.{ℕ}
 use native.Mathlib.Omega.{arith}
@@ -10,8 +10,10 @@ use mir.Facts.{toZ-ofZ}
 use denote.Ref.{now}
 use borrow.Author.Needs.{needs}
 use Rattle.base.specs.Form.{narrow}
+use Rattle.base.specs.declared.Family.{Family}
 use Rattle.base.proofs.Passed.{passed, long-enough}
-use Rattle.transforms.proofs.Passing.{pair-columns, pair-ruled}
+use Rattle.transforms.specs.Code.{isIntCopy}
+use Rattle.transforms.proofs.Passing.{pair-columns}
 use Rattle.transforms.proofs.Delivered.{room, pair-refused, pair-nature-refused, pair-written}
 use Rattle.transforms.proofs.step_pair.Statement.{statement}
 use Rattle.transforms.proofs.step_pair.Tie as tie
@@ -46,7 +48,7 @@ propagate-binary-nature-requires c κs =
       p .0,
       p .1,
       record { some-column = limited .0; within = limited .1; first-room = search needs; second-room = search needs },
-      inl (pair-ruled (start .args .c) (head .read-head .result .«data_type») (p .2)),
+      inl (ap (λ (f : Family). isIntCopy f (head .read-head .result .«data_type»)) (p .2)),
     )
 
 returns-2 : tie.Need-returns-2
@@ -86,7 +88,7 @@ returns-3 c =
     let back : toZ w64 (ofZ w64 (pos (start .args .node))) ≡ pos (start .args .node) = toZ-ofZ {w = w64} (node-fits (start .fits .node)) in (
       pair-written (start .args .c) (start .args .node) (now (start .args .left)) (now (start .args .right)) (code .pair-code .ensures)
           (code .before .before .read-head .ensures) (code .before .read-head2 .ensures) (width .widest .ensures) (width .before .if1 .left)
-          (start .pre .2) (put .before .before .before .before .before .adds-nullity .ensures) (put .before .before .before .before .pair-head .ensures)
+          (put .before .before .before .before .before .adds-nullity .ensures) (put .before .before .before .before .pair-head .ensures)
           (rw (put .before .before .before .before .before .before .before .derived .given .1) at (nature .propagate-binary-nature .ensures .0))
           (rw back at (put .put-pair .ensures .1)),
       put .put-pair .ensures .0,

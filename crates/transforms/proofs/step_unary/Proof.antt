@@ -1,12 +1,13 @@
 -- `transforms::step_unary` meets its contract. Assumes nothing.
-use mathlib.Core.Path.{_≡_, sym, _∙_}
+use mathlib.Core.Path.{_≡_, sym, ap, _∙_}
 use mir.Syntax.{w64}
 use mir.Val.{toZ, ofZ}
 use denote.Ref.{now}
 use borrow.Author.Needs.{needs}
 use Rattle.base.specs.Form.{narrow}
 use Rattle.base.proofs.Passed.{passed, long-enough}
-use Rattle.transforms.proofs.Passing.{unary-columns, unary-ruled}
+use Rattle.transforms.specs.Code.{hasRule}
+use Rattle.transforms.proofs.Passing.{unary-columns}
 use Rattle.transforms.proofs.Delivered.{room, bounded, unary-refused, unary-nature-refused, unary-written}
 use Rattle.transforms.proofs.step_unary.Statement.{statement}
 use Rattle.transforms.proofs.step_unary.Tie as tie
@@ -28,7 +29,7 @@ propagate-unary-nature-requires c κs =
     let left = now (start .args .left) in
     let none = sym (code .unary-code .ensures) ∙ width .before .if1 .left in
     let limited = unary-columns left (start .pre .0 .fields) (code .before .read-head .ensures) (width .columns-of .ensures) none in
-    (start .pre .0, record { some-column = limited .0; within = limited .1; first-room = search needs; second-room = search needs }, unary-ruled (start .args .c) (start .pre .1))
+    (start .pre .0, record { some-column = limited .0; within = limited .1; first-room = search needs; second-room = search needs }, ap hasRule (start .pre .1))
 
 node-at-requires : tie.Need-node-at-requires
 node-at-requires c κs = let start = c .before .before .before .before .before .before .before .before .before .before .before .before .before .before .before .before .before in long-enough (passed narrow (now (start .args .left)) (start .pre .0 .sizes))
