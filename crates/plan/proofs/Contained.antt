@@ -57,11 +57,15 @@ whole-fitting (floatLists ls) n h = h
 good-node : (z : ℤ) (s : Sheet) (rs : Results) → Good s rs → Good (withNode z s) rs
 good-node z s rs g = record { columns = g .columns; atLeastOne = g .atLeastOne; fits = g .fits; result = g .result }
 
-good-numbered : (f : Family) (c : Component) (k : ℕ) (s : Sheet) (xs ys : Results) → Good s (stepOf c s xs ys) → Good (numbered f k s) (stepOf c (numbered f k s) xs ys)
+good-numbered : (c : Component) (k : ℕ) (s : Sheet) (xs ys : Results) → Good s (stepOf c s xs ys)
+    → Good (numbered (familyOf c) k s) (stepOf c (numbered (familyOf c) k s) xs ys)
 unfolding numbered
-good-numbered Fam.Unary c k s xs ys g = g
-good-numbered Fam.Pair c k s xs ys g = good-node _ s _ g
-good-numbered Fam.Copy c k s xs ys g = g
+good-numbered c k s xs ys g = go (familyOf c)
+  where
+    go : (f : Family) → Good (numbered f k s) (stepOf c (numbered f k s) xs ys)
+    go Fam.Unary = g
+    go Fam.Pair = good-node _ s _ g
+    go Fam.Copy = g
 
 -- ---- all nodes, in order
 
@@ -157,7 +161,7 @@ module _ (p work after : List ℕ) (a : Accepted p work after) where
         let e : derive (narrow .categoryLimit) (d .component) l r ≡ ok (d .sheet) =
         ap₂ (λ (x y : Sheet). derive (narrow .categoryLimit) (d .component) x y) (sheet-after (leftOf p k)) (sheet-after (rightOf p k)) ∙ d .derived in
         let u = subst (λ (n : Numbered). Suits n l r) (d .listed) (h .components k b c) in
-        let s = good-numbered (familyOf (d .component)) (d .component) k (d .sheet) xs ys (step-good (narrow .categoryLimit) (d .component) l r (d .sheet) xs ys e g f (h .operandColumns k b c) u) in
+        let s = good-numbered (d .component) k (d .sheet) xs ys (step-good (narrow .categoryLimit) (d .component) l r (d .sheet) xs ys e g f (h .operandColumns k b c) u) in
         let is = sheet-after k ∙ d .is in
         subst
         (λ (n : Numbered). Good (sheetOf narrow p work after k) (listFrom (columnsOf (sheetOf narrow p work after k .fields)) 0 (λ j. exactOf n (columnOf xs j) (columnOf ys j))))

@@ -171,7 +171,7 @@ pub derived-sound : (c : Component) (l r : Sheet) → Held l → Held r → Give
 unfolding derive
 derived-sound c l r p q = go (familyOf c)
   where
-    go : (f : Family) → Gives Sound (deriveBy 128 c f l r)
+    go : (f : Family) → Gives Sound (deriveBy (narrow .categoryLimit) c f l r)
     go Fam.Unary = unary-sound c l p
     go Fam.Pair = pair-sound c l r p q
     go Fam.Copy = copy-sound c l r p q
