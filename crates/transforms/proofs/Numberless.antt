@@ -16,14 +16,16 @@ use Rattle.base.specs.Sheet.{Sheet, Nature}
 use Rattle.base.specs.Checks.{read}
 use Rattle.base.specs.Code.{codeOf}
 use Rattle.base.specs.Encode.{encode}
-use Rattle.base.specs.Components.{isUnary}
+use Rattle.base.specs.Components.{familyOf, isUnary}
 use Rattle.base.specs.declared.Component.{Component}
 use Rattle.base.specs.declared.Component.the-variants as C
+use Rattle.base.specs.declared.Family.{Family}
+use Rattle.base.specs.declared.Family.the-variants as Fam
 use Rattle.shape.specs.Shape.{columnsOf, widest}
-use Rattle.shape.specs.Orders.{unaryChecks, pairChecks, copyChecks, moduloChecks, logChecks, powerChecks, lastChecks}
+use Rattle.shape.specs.Orders.{unaryChecks, pairChecks, boundChecks, copyChecks, lastChecks}
 use Rattle.shape.specs.Fields.{withNode, numbered}
 use Rattle.transforms.specs.Natures.{unaryNature, binaryNature}
-use Rattle.transforms.specs.Derive.{deriveUnary, derivePair, deriveCopy, derive}
+use Rattle.transforms.specs.Derive.{deriveUnary, derivePair, deriveCopy, deriveBy, derive}
 use Rattle.transforms.specs.Single.{stepSheet, step}
 
 -- what was derived, with n as its node number
@@ -61,6 +63,18 @@ sheet-alike (refused k) (refused m) f f′ e p = record { but-node = λ n. e .bu
 
 -- ---- a derivation
 
+-- 14 to 16 read types and natures
+bounds-numberless : (c : Component) (a b : ℤ) (l r : Sheet) → boundChecks c (withNode a l) (withNode b r) ≡ boundChecks c l r
+bounds-numberless C.Abs a b l r = refl
+bounds-numberless C.Add a b l r = refl
+bounds-numberless C.Subtract a b l r = refl
+bounds-numberless C.Multiply a b l r = refl
+bounds-numberless C.Divide a b l r = refl
+bounds-numberless C.Modulo a b l r = refl
+bounds-numberless C.Log a b l r = refl
+bounds-numberless C.Power a b l r = refl
+bounds-numberless C.Negative a b l r = refl
+
 module _ (limit : ℕ) (c : Component) (a b : ℤ) (l r : Sheet) where
   unary-numberless : Alike (deriveUnary limit c (withNode a l)) (deriveUnary limit c l)
   unfolding deriveUnary
@@ -74,24 +88,22 @@ module _ (limit : ℕ) (c : Component) (a b : ℤ) (l r : Sheet) where
       checked-alike (pairChecks l r)
       (nature-alike (binaryNature limit c (l .fields .dataType) (widest (l .fields) (r .fields)) (l .nature) (r .nature)) _ _ (λ k. record { but-node = λ n. refl }))
 
-  copy-numberless : (boundChecks : List Check) → Alike (deriveCopy limit c boundChecks (withNode a l) (withNode b r)) (deriveCopy limit c boundChecks l r)
+  copy-numberless : Alike (deriveCopy limit c (withNode a l) (withNode b r)) (deriveCopy limit c l r)
   unfolding deriveCopy
-  copy-numberless boundChecks =
-      checked-alike (copyChecks l r boundChecks)
+  copy-numberless =
+      rw (bounds-numberless c a b l r)
+      (checked-alike (copyChecks c l r)
       (nature-alike (binaryNature limit c (l .fields .dataType) (columnsOf (l .fields)) (l .nature) (r .nature)) _ _
-      (λ k. checked-alike (lastChecks l r) (record { but-node = λ n. refl })))
+      (λ k. checked-alike (lastChecks l r) (record { but-node = λ n. refl }))))
 
-pub numberless : (limit : ℕ) (c : Component) (a b : ℤ) (l r : Sheet) → Alike (derive limit c (withNode a l) (withNode b r)) (derive limit c l r)
-unfolding derive
-numberless limit C.Abs a b l r = unary-numberless limit C.Abs a b l r
-numberless limit C.Add a b l r = pair-numberless limit C.Add a b l r
-numberless limit C.Subtract a b l r = pair-numberless limit C.Subtract a b l r
-numberless limit C.Multiply a b l r = pair-numberless limit C.Multiply a b l r
-numberless limit C.Divide a b l r = pair-numberless limit C.Divide a b l r
-numberless limit C.Modulo a b l r = copy-numberless limit C.Modulo a b l r (moduloChecks l r)
-numberless limit C.Log a b l r = copy-numberless limit C.Log a b l r (logChecks l r)
-numberless limit C.Power a b l r = copy-numberless limit C.Power a b l r (powerChecks l r)
-numberless limit C.Negative a b l r = unary-numberless limit C.Negative a b l r
+  by-family : (f : Family) → Alike (deriveBy limit c f (withNode a l) (withNode b r)) (deriveBy limit c f l r)
+  by-family Fam.Unary = unary-numberless
+  by-family Fam.Pair = pair-numberless
+  by-family Fam.Copy = copy-numberless
+
+  pub numberless : Alike (derive limit c (withNode a l) (withNode b r)) (derive limit c l r)
+  unfolding derive
+  numberless = by-family (familyOf c)
 
 same-sheet : (l l′ : Sheet) → Alike (ok l) (ok l′) → l ≡ withNode (l .node) l′
 same-sheet l l′ e = let h : _≡_ {A = Result Sheet} (ok l) (ok (withNode (l .node) l′)) = e .but-node (l .node) in cc
@@ -110,7 +122,7 @@ module _ (F : Form) (c : Component) (left left′ right right′ : List ℕ) (p 
       let limit = F .categoryLimit in
       sheet-alike (read F left) (read F left′) _ _ p
       (λ l l′ e.
-      cond-alike (isUnary c) (derive-alike limit c l l′ l l′ e e)
+      cond-alike (isUnary (familyOf c)) (derive-alike limit c l l′ l l′ e e)
       (sheet-alike (read F right) (read F right′) _ _ q (λ r r′ f. derive-alike limit c l l′ r r′ e f)))
 
   -- a code of 0 is a step that derives; `node` and `node′` are the calls' own node numbers
@@ -119,7 +131,7 @@ module _ (F : Form) (c : Component) (left left′ right right′ : List ℕ) (p 
   step-alike node node′ = go (stepSheet F c left right) (stepSheet F c left′ right′) stepSheet-alike
     where
       go : (g h : Result Sheet) → Alike g h
-          → codeOf (andThen g (λ s. ok (encode F (numbered c node s)))) ≡ codeOf (andThen h (λ s. ok (encode F (numbered c node′ s))))
+          → codeOf (andThen g (λ s. ok (encode F (numbered (familyOf c) node s)))) ≡ codeOf (andThen h (λ s. ok (encode F (numbered (familyOf c) node′ s))))
       go (ok s) (ok t) e = refl
       go (ok s) (refused k) e = absurd (never (e .but-node (pos 0)))
       go (refused k) (ok t) e = absurd (never (sym (e .but-node (pos 0))))
