@@ -7,20 +7,6 @@ use lib.Dec.{T}
 use borrow.Author.Tests.{eq-eqb, ne-eqb, eqb-true}
 use Rattle.numbers.specs.Kind.{Kind, lesser, greater, least, greatest, eqZ}
 
--- by the test
-module _ {E : Type 0} (K : Kind E) (x y : E) where
-  pub lesser-yes : K .lt y x ≡ true → lesser K x y ≡ y
-  lesser-yes e = ap (λ (t : Bool). cond t y x) e
-
-  pub lesser-no : K .lt y x ≡ false → lesser K x y ≡ x
-  lesser-no e = ap (λ (t : Bool). cond t y x) e
-
-  pub greater-yes : K .lt y x ≡ true → greater K x y ≡ x
-  greater-yes e = ap (λ (t : Bool). cond t x y) e
-
-  pub greater-no : K .lt y x ≡ false → greater K x y ≡ y
-  greater-no e = ap (λ (t : Bool). cond t x y) e
-
 -- what holds of each of the results holds of the least and of the greatest
 module _ {E : Type 0} (K : Kind E) (P : E → Type 0) where
   either : (t : Bool) {x y : E} → P x → P y → P (cond t x y)

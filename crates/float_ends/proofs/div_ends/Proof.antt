@@ -1,28 +1,12 @@
 -- `float_ends::div_ends` meets its contract. Assumes nothing.
-use mathlib.Core.Path.{sym, ap, _∙_}
 use borrow.Author.Needs.{needs}
-use Rattle.numbers.specs.Kind.{float}
-use Rattle.base.specs.Code.{ofFloat}
-use Rattle.ends.specs.Code.{floatSpan}
-use Rattle.ends.proofs.Rules.{div-absent, div-present}
-use Rattle.ends.proofs.Answers.{ends-answer}
-use Rattle.float_ends.specs.Code.{pairIn}
+use Rattle.ends.specs.Ends.{divEnds}
+use Rattle.ends.proofs.Rules.{both-on}
 use Rattle.float_ends.proofs.div_ends.Statement.{statement}
 use Rattle.float_ends.proofs.div_ends.Tie as tie
 
-returns : tie.Need-returns
-returns c =
-    let v = c .before .before .before .before .args in
-    ends-answer ofFloat (div-absent float (floatSpan (v .x)) (floatSpan (v .y)) (sym (c .before .before .before .pair-of .ensures) ∙ ap pairIn (c .before .enum-told .given .1)))
-    (c .unknown .ensures)
-
-returns-2 : tie.Need-returns-2
-returns-2 c =
-    let v = c .before .before .before .before .before .args in
-    ends-answer ofFloat (div-present float (floatSpan (v .x)) (floatSpan (v .y)) (sym (c .before .before .before .before .pair-of .ensures) ∙ ap pairIn (c .before .before .a .given .1)))
-    (c .div-by .ensures)
-
 pub div-ends-spec : {M : Type 1} → statement M
+unfolding divEnds
 div-ends-spec =
     tie.close
     (tie.spec
@@ -30,6 +14,6 @@ div-ends-spec =
     (λ c. search needs)
     (λ c. search needs)
     (λ c κs. search needs)
-    returns
+    (λ c. rw (both-on, ← c .before .before .before .pair-of .ensures, c .before .enum-told .given .1) (c .unknown .ensures))
     (λ c κs. search needs)
-    returns-2)
+    (λ c. rw (both-on, ← c .before .before .before .before .pair-of .ensures, c .before .before .a .given .1) (c .div-by .ensures)))

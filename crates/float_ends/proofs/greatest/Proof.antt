@@ -1,13 +1,7 @@
 -- `float_ends::greatest` meets its contract. Assumes nothing.
-use mathlib.Core.Path.{refl}
 use borrow.Author.Needs.{needs}
-use Rattle.numbers.specs.Kind.{float, greater}
-use Rattle.ends.proofs.Answers.{chain}
 use Rattle.float_ends.proofs.greatest.Statement.{statement}
 use Rattle.float_ends.proofs.greatest.Tie as tie
-
-returns : tie.Need-returns
-returns c = chain (greater float) refl refl refl refl refl refl refl (c .before .before .greater .ensures) (c .before .greater2 .ensures) (c .greater3 .ensures)
 
 pub greatest-spec : {M : Type 1} → statement M
 greatest-spec =
@@ -16,4 +10,4 @@ greatest-spec =
     (λ c κs. search needs)
     (λ c κs. search needs)
     (λ c κs. search needs)
-    returns)
+    (λ c. rw (c .greater3 .ensures, c .before .greater2 .ensures, c .before .before .greater .ensures)))

@@ -4,13 +4,10 @@ use Rattle.ends.specs.Ends.{mulCorners}
 use Rattle.float_ends.proofs.optimize_product.Statement.{statement}
 use Rattle.float_ends.proofs.optimize_product.Tie as tie
 
-returns : tie.Need-returns
-unfolding mulCorners
-returns c = c .corners .ensures
-
 pub optimize-product-spec : {M : Type 1} → statement M
+unfolding mulCorners
 optimize-product-spec =
     tie.close
     (tie.spec
     (λ c κs. search needs)
-    returns)
+    (λ c. c .corners .ensures))

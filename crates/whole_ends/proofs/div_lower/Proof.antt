@@ -1,19 +1,8 @@
 -- `whole_ends::div_lower` meets its contract. Assumes nothing.
-use mathlib.Core.Path.{refl, ap, ap₂, _∙_}
-use lib.IntN.{ℤ}
-use mir.Syntax.{w64}
-use mir.Val.{SFits}
 use mir.Facts.{toZ-ofZ}
 use borrow.Author.Needs.{needs}
-use Rattle.numbers.specs.Kind.{whole, fitting, lesser}
-use Rattle.numbers.proofs.Results.{then-ok, then-refused}
-use Rattle.base.specs.Code.{ofWhole}
-use Rattle.base.specs.declared.Bound.the-variants.{Absent, Whole}
 use Rattle.ends.specs.Ends.{divLower}
-use Rattle.ends.specs.Code.{rangeOf}
-use Rattle.ends.specs.declared.Ends.the-variants.{Are}
-use Rattle.ends.proofs.Answers.{ends-answer}
-use Rattle.whole_ends.proofs.Given.{found}
+use Rattle.whole_ends.proofs.Given.{reads}
 use Rattle.whole_ends.proofs.div_lower.Statement.{statement}
 use Rattle.whole_ends.proofs.div_lower.Tie as tie
 
@@ -21,28 +10,27 @@ returns : tie.Need-returns
 unfolding divLower
 returns c =
     let f = c .before .before .before .fits in
-    ends-answer ofWhole (then-refused _ (found (whole .div) (f .a) (f .d) (ap fitting (c .before .before .checked-div .ensures)) (c .enum-told .given .1))) refl
+    let first = rw (toZ-ofZ (f .a), toZ-ofZ (f .d)) at (c .before .before .checked-div .ensures) in
+    rw (← first, c .enum-told .given .1)
 
 returns-2 : tie.Need-returns-2
 unfolding divLower
 returns-2 c =
     let f = c .before .before .before .before .before .before .before .fits in
-    ends-answer ofWhole (then-ok _ (found (whole .div) (f .a) (f .d) (ap fitting (c .before .before .before .before .before .before .checked-div .ensures)) (c .before .before .before .before .p .given .1))
-    ∙ then-refused _ (found (whole .div) (f .c) (f .d) (ap fitting (c .before .before .checked-div2 .ensures)) (c .enum-told2 .given .1))) refl
+    let first = rw (toZ-ofZ (f .a), toZ-ofZ (f .d)) at (c .before .before .before .before .before .before .checked-div .ensures) in
+    let second = rw (toZ-ofZ (f .c), toZ-ofZ (f .d)) at (c .before .before .checked-div2 .ensures) in
+    rw (← first, c .before .before .before .before .p .given .1, ← second, c .enum-told2 .given .1)
 
 returns-3 : tie.Need-returns-3
 unfolding divLower
 returns-3 c =
     let f = c .before .before .before .before .before .before .before .before .before .fits in
+    let first = rw (toZ-ofZ (f .a), toZ-ofZ (f .d)) at (c .before .before .before .before .before .before .before .before .checked-div .ensures) in
+    let second = rw (toZ-ofZ (f .c), toZ-ofZ (f .d)) at (c .before .before .before .before .checked-div2 .ensures) in
     let p = c .before .before .before .before .before .before .p .given in
     let q = c .before .before .q .given in
     let r = c .lesser in
-    let fp : SFits w64 (p .0 .0) = search needs in
-    let fq : SFits w64 (q .0 .0) = search needs in
-    let fr : SFits w64 (r .result) = search needs in
-    ends-answer ofWhole (then-ok _ (found (whole .div) (f .a) (f .d) (ap fitting (c .before .before .before .before .before .before .before .before .checked-div .ensures)) (p .1))
-    ∙ then-ok _ (found (whole .div) (f .c) (f .d) (ap fitting (c .before .before .before .before .checked-div2 .ensures)) (q .1)))
-    (ap (λ (z : ℤ). Are (rangeOf (Whole z) Absent)) (toZ-ofZ fr ∙ r .ensures ∙ ap₂ (lesser whole) (toZ-ofZ fp) (toZ-ofZ fq)))
+    rw (← first, p .1, ← second, q .1, reads (r .result) (search needs), r .ensures, reads (p .0 .0) (search needs), reads (q .0 .0) (search needs))
 
 pub div-lower-spec : {M : Type 1} → statement M
 div-lower-spec =

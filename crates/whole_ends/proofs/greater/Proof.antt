@@ -1,21 +1,18 @@
 -- `whole_ends::greater` meets its contract. Assumes nothing.
-use mathlib.Core.Path.{sym, _∙_}
 use mir.Facts.{toZ-ofZ}
-use Rattle.numbers.specs.Kind.{whole}
 use Rattle.numbers.proofs.Bits.{lt-read}
-use Rattle.numbers.proofs.Choices.{greater-yes, greater-no}
 use Rattle.whole_ends.proofs.greater.Statement.{statement}
 use Rattle.whole_ends.proofs.greater.Tie as tie
 
 returns : tie.Need-returns
 returns c =
-    let v = c .before in
-    toZ-ofZ (v .fits .x) ∙ sym (greater-yes whole (v .args .x) (v .args .y) (lt-read (v .fits .y) (v .fits .x) (c .if1 .taken)))
+    let f = c .before .fits in
+    rw (lt-read (f .y) (f .x) (c .if1 .taken), toZ-ofZ (f .x))
 
 returns-2 : tie.Need-returns-2
 returns-2 c =
-    let v = c .before in
-    toZ-ofZ (v .fits .y) ∙ sym (greater-no whole (v .args .x) (v .args .y) (lt-read (v .fits .y) (v .fits .x) (c .if1 .left)))
+    let f = c .before .fits in
+    rw (lt-read (f .y) (f .x) (c .if1 .left), toZ-ofZ (f .y))
 
 pub greater-spec : {M : Type 1} → statement M
 greater-spec =

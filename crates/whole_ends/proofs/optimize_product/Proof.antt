@@ -1,12 +1,7 @@
 -- `whole_ends::optimize_product` meets its contract. Assumes nothing.
-use mathlib.Core.Path.{ap, _∙_}
+use mir.Facts.{toZ-ofZ}
 use borrow.Author.Needs.{needs}
-use Rattle.numbers.specs.Kind.{whole, fitting}
-use Rattle.base.specs.Code.{ofWhole}
-use Rattle.ends.specs.Ends.{corners, mulCorners}
-use Rattle.ends.specs.Code.{endsOf}
-use Rattle.ends.proofs.Answers.{four}
-use Rattle.whole_ends.proofs.Given.{given}
+use Rattle.ends.specs.Ends.{mulCorners}
 use Rattle.whole_ends.proofs.optimize_product.Statement.{statement}
 use Rattle.whole_ends.proofs.optimize_product.Tie as tie
 
@@ -14,11 +9,8 @@ returns : tie.Need-returns
 unfolding mulCorners
 returns c =
     let f = c .before .before .before .before .before .fits in
-    c .corners .ensures ∙ ap (endsOf ofWhole) (four (corners whole)
-    (given (whole .mul) (f .a) (f .d) (ap fitting (c .before .before .before .before .checked-mul .ensures)))
-    (given (whole .mul) (f .a) (f .f) (ap fitting (c .before .before .before .checked-mul2 .ensures)))
-    (given (whole .mul) (f .c) (f .d) (ap fitting (c .before .before .checked-mul3 .ensures)))
-    (given (whole .mul) (f .c) (f .f) (ap fitting (c .before .checked-mul4 .ensures))))
+    rw (toZ-ofZ (f .a), toZ-ofZ (f .c), toZ-ofZ (f .d), toZ-ofZ (f .f))
+    at (rw (c .before .before .before .before .checked-mul .ensures, c .before .before .before .checked-mul2 .ensures, c .before .before .checked-mul3 .ensures, c .before .checked-mul4 .ensures) at (c .corners .ensures))
 
 pub optimize-product-spec : {M : Type 1} → statement M
 optimize-product-spec =
