@@ -142,9 +142,9 @@ fn put_marks(buf: &mut [u8], at: usize, nature: u8, head: Head) -> usize
     let end = bytes::put_u32(buf, end, head.c_stability);
     let end = bytes::put_u32(buf, end, head.aggregator);
     let end = put_presence(buf, end, head);
-    let end = bytes::put_u32(buf, end, 0);
+    let end = bytes::put_u8(buf, end, 0);
     let end = bytes::put_u16(buf, end, 0);
-    bytes::put_u8(buf, end, 0)
+    bytes::put_u32(buf, end, 0)
 }
 
 // Bytes 32 to 71.

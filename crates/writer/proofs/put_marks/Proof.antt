@@ -16,7 +16,7 @@ returns c =
     let third = fourth .before .before .before .before in
     let second = third .before .before .before .before in
     let first = second .before .before .before .before in
-    let zeros = and-then (and-then (fifth .put-u323 .ensures) (sixth .put-u16 .ensures)) (seventh .put-u8 .ensures) in
+    let zeros = and-then (and-then (fifth .put-u8 .ensures) (sixth .put-u16 .ensures)) (seventh .put-u323 .ensures) in
     and-then
     (and-then (and-then (and-then (first .put-flags .ensures) (second .put-u32 .ensures)) (third .put-u322 .ensures)) (fourth .put-presence .ensures))
     zeros
