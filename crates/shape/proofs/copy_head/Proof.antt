@@ -6,7 +6,7 @@ use Rattle.shape.proofs.copy_head.Tie as tie
 
 returns : tie.Need-returns
 unfolding copyFields
-returns c = cc
+returns c = rw (c .before .before .greater-option .ensures)
 
 pub copy-head-spec : {M : Type 1} → statement M
 copy-head-spec = tie.close (tie.spec (λ c κs. search needs) returns)

@@ -4,7 +4,7 @@ use Rattle.shape.proofs.rows_clash.Statement.{statement}
 use Rattle.shape.proofs.rows_clash.Tie as tie
 
 returns : tie.Need-returns
-returns c = cc
+returns c = rw (c .before .rows-agree .ensures, c .same-dataset .ensures)
 
 pub rows-clash-spec : {M : Type 1} → statement M
 rows-clash-spec = tie.close (tie.spec (λ c κs. search needs) (λ c κs. search needs) returns)

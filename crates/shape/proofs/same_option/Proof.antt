@@ -1,12 +1,8 @@
 -- `shape::same_option` meets its contract. Assumes nothing.
-use borrow.Author.Needs.{needs}
-use mathlib.Core.Path.{_≡_, sym, ap₂, _∙_}
+use mathlib.Core.Path.{_≡_}
 use mir.Syntax.{w64}
 use mir.Val.{toZ, ofZ}
-use Rattle.numbers.specs.Kind.{eqZ}
-use Rattle.base.specs.Code.{signedOf}
-use Rattle.base.specs.declared.OptionI64.{OptionI64}
-use Rattle.shape.specs.Shape.{sameOption}
+use borrow.Author.Needs.{needs}
 use Rattle.shape.proofs.Values.{same-bits}
 use Rattle.shape.proofs.same_option.Statement.{statement}
 use Rattle.shape.proofs.same_option.Tie as tie
@@ -17,7 +13,7 @@ returns-4 c =
     let y = c .before .y .given in
     let a : toZ w64 (ofZ w64 (x .0 .0)) ≡ x .0 .0 = search needs in
     let b : toZ w64 (ofZ w64 (y .0 .0)) ≡ y .0 .0 = search needs in
-    same-bits (x .0 .0) (y .0 .0) a b ∙ sym (ap₂ (λ (p q : OptionI64). sameOption eqZ (signedOf p) (signedOf q)) (x .1) (y .1))
+    rw (x .1, y .1) (same-bits (x .0 .0) (y .0 .0) a b)
 
 pub same-option-spec : {M : Type 1} → statement M
 same-option-spec =

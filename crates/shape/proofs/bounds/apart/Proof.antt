@@ -1,8 +1,7 @@
 -- `shape::bounds::apart` meets its contract. Assumes nothing.
-use borrow.Author.Needs.{needs}
-use mathlib.Core.Path.{sym, ap, ap₂, _∙_}
-use mathlib.Core.Bool.{true, false, not, _&&_}
+use mathlib.Core.Bool.{true, false}
 use lib.Ieee.{ofBits}
+use borrow.Author.Needs.{needs}
 use Rattle.base.specs.Code.{floatEnd}
 use Rattle.shape.proofs.Asks.{spans-by}
 use Rattle.shape.proofs.bounds.apart.Statement.{statement}
@@ -12,33 +11,33 @@ returns : tie.Need-returns
 unfolding ofBits
 returns c =
     let a = c .before .before .before .before .before .before .args in
-    let lower = sym (c .before .before .before .before .float-present2 .ensures) ∙ c .before .before .before .if1 .taken in
-    let upper = sym (c .before .before .before .before .before .float-present .ensures) ∙ c .before .before .if2 .taken in
-    ap not (ap₂ _&&_ (c .before .float-under .ensures) (c .float-above .ensures)) ∙ sym (ap not (spans-by (floatEnd (a .lower)) (floatEnd (a .upper)) true true lower upper))
+    let lower = rw (c .before .before .before .before .float-present2 .ensures) at (c .before .before .before .if1 .taken) in
+    let upper = rw (c .before .before .before .before .before .float-present .ensures) at (c .before .before .if2 .taken) in
+    rw (c .before .float-under .ensures, c .float-above .ensures, spans-by (floatEnd (a .lower)) (floatEnd (a .upper)) true true lower upper)
 
 returns-2 : tie.Need-returns-2
 unfolding ofBits
 returns-2 c =
     let a = c .before .before .before .before .before .args in
-    let lower = sym (c .before .before .before .float-present2 .ensures) ∙ c .before .before .if1 .taken in
-    let upper = sym (c .before .before .before .before .float-present .ensures) ∙ c .before .if2 .left in
-    ap not (c .float-above2 .ensures) ∙ sym (ap not (spans-by (floatEnd (a .lower)) (floatEnd (a .upper)) true false lower upper))
+    let lower = rw (c .before .before .before .float-present2 .ensures) at (c .before .before .if1 .taken) in
+    let upper = rw (c .before .before .before .before .float-present .ensures) at (c .before .if2 .left) in
+    rw (c .float-above2 .ensures, spans-by (floatEnd (a .lower)) (floatEnd (a .upper)) true false lower upper)
 
 returns-3 : tie.Need-returns-3
 unfolding ofBits
 returns-3 c =
     let a = c .before .before .before .before .before .args in
-    let lower = sym (c .before .before .before .float-present2 .ensures) ∙ c .before .before .if1 .left in
-    let upper = sym (c .before .before .before .before .float-present .ensures) ∙ c .before .if3 .taken in
-    ap not (c .float-under2 .ensures) ∙ sym (ap not (spans-by (floatEnd (a .lower)) (floatEnd (a .upper)) false true lower upper))
+    let lower = rw (c .before .before .before .float-present2 .ensures) at (c .before .before .if1 .left) in
+    let upper = rw (c .before .before .before .before .float-present .ensures) at (c .before .if3 .taken) in
+    rw (c .float-under2 .ensures, spans-by (floatEnd (a .lower)) (floatEnd (a .upper)) false true lower upper)
 
 returns-4 : tie.Need-returns-4
 unfolding ofBits
 returns-4 c =
     let a = c .before .before .before .before .args in
-    let lower = sym (c .before .before .float-present2 .ensures) ∙ c .before .if1 .left in
-    let upper = sym (c .before .before .before .float-present .ensures) ∙ c .if3 .left in
-    sym (ap not (spans-by (floatEnd (a .lower)) (floatEnd (a .upper)) false false lower upper))
+    let lower = rw (c .before .before .float-present2 .ensures) at (c .before .if1 .left) in
+    let upper = rw (c .before .before .before .float-present .ensures) at (c .if3 .left) in
+    rw (spans-by (floatEnd (a .lower)) (floatEnd (a .upper)) false false lower upper)
 
 pub apart-spec : {M : Type 1} → statement M
 apart-spec =

@@ -6,7 +6,7 @@ use Rattle.shape.proofs.codes.operand_code.Tie as tie
 
 returns : tie.Need-returns
 unfolding firstFailing
-returns c = cc
+returns c = rw (c .first2 .ensures, c .before .first .ensures, c .before .before .sampled .ensures, c .before .before .before .aggregated .ensures)
 
 pub operand-code-spec : {M : Type 1} → statement M
 operand-code-spec = tie.close (tie.spec (λ c κs. search needs) (λ c κs. search needs) (λ c κs. search needs) (λ c κs. search needs) returns)

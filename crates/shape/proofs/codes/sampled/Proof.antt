@@ -4,7 +4,7 @@ use Rattle.shape.proofs.codes.sampled.Statement.{statement}
 use Rattle.shape.proofs.codes.sampled.Tie as tie
 
 returns : tie.Need-returns
-returns c = cc
+returns c = rw (c .not-one .ensures)
 
 pub sampled-spec : {M : Type 1} → statement M
 sampled-spec = tie.close (tie.spec (λ c κs. search needs) returns)

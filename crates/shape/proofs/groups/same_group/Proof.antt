@@ -1,10 +1,8 @@
 -- `shape::groups::same_group` meets its contract. Assumes nothing.
 use borrow.Author.Needs.{needs}
 use mathlib.Core.Path.{_≡_}
-use lib.Dec.{eqb}
 use mir.Syntax.{w64}
 use mir.Val.{toZ, ofZ}
-use Rattle.numbers.specs.Kind.{eqZ}
 use Rattle.shape.proofs.Values.{same-bits}
 use Rattle.shape.proofs.groups.same_group.Statement.{statement}
 use Rattle.shape.proofs.groups.same_group.Tie as tie
@@ -15,8 +13,8 @@ returns c =
     let y = c .before .before .before .before .i64-at2 .result in
     let a : toZ w64 (ofZ w64 x) ≡ x = search needs in
     let b : toZ w64 (ofZ w64 y) ≡ y = search needs in
-    let e : eqb (ofZ w64 x) (ofZ w64 y) ≡ eqZ x y = same-bits x y a b in
-    cc
+    rw (same-bits x y a b, c .before .before .before .before .before .i64-at .ensures, c .before .before .before .before .i64-at2 .ensures, c .before .before .before .u32-at .ensures, c .before .before .u32-at2 .ensures)
+    (rw (c .before .before .before .before .before .before .before .partition-at .ensures, c .before .before .before .before .before .before .key-at .ensures))
 
 pub same-group-spec : {M : Type 1} → statement M
 same-group-spec =

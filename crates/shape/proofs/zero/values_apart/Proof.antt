@@ -1,14 +1,12 @@
 -- `shape::zero::values_apart` meets its contract: each turn tests one value. Assumes nothing.
-use mathlib.Core.Path.{_≡_, refl, ap}
+use mathlib.Core.Path.{refl, ap}
 use mathlib.Core.Bool.{Bool, not}
 use Prim.Native.Nat.{_≤_, _-_}
 use denote.Ref.{now}
 use borrow.Author.Needs.{needs}
-use Rattle.base.specs.Form.{narrow, groupCount, categoryCount}
-use Rattle.base.specs.Decode.{categoryAt}
+use Rattle.base.specs.Form.{narrow}
 use Rattle.base.specs.Checks.{holdsFrom}
 use Rattle.base.proofs.Holding.{Holding, holding-from-zero, holding-more, holding-failed, holding-done}
-use Rattle.shape.specs.Fields.{nanOrZero}
 use Rattle.shape.specs.Asked.{valueApart}
 use Rattle.shape.proofs.zero.values_apart.Statement.{statement}
 use Rattle.shape.proofs.zero.values_apart.Tie as tie
@@ -27,15 +25,15 @@ loop-holds c =
 returns : tie.Need-returns Inv-loop μ-loop
 returns c =
     let t = c .before .before .before .before in
-    let s = now (t .before .before .before .args .s) in
-    let e : c .before .nan-or-zero .result ≡ nanOrZero (categoryAt narrow s (groupCount narrow s) (categoryCount narrow s) (t .before .loop .i)) = cc in
+    let z = t .before .before .before in
+    let e = rw (c .before .before .f64-at .ensures, c .before .before .before .value-at .ensures, z .pre .groups, z .pre .categories) at (c .before .nan-or-zero .ensures) in
     holding-failed (t .before .loop .inv .1) (t .loop-test .taken) (ap not e) (ap (λ (t : Bool). not (not t)) (c .if1 .taken))
 
 loop-again : tie.Need-loop-again Inv-loop μ-loop
 loop-again c =
     let t = c .before .before .before .before in
-    let s = now (t .before .before .before .args .s) in
-    let e : c .before .nan-or-zero .result ≡ nanOrZero (categoryAt narrow s (groupCount narrow s) (categoryCount narrow s) (t .before .loop .i)) = cc in
+    let z = t .before .before .before in
+    let e = rw (c .before .before .f64-at .ensures, c .before .before .before .value-at .ensures, z .pre .groups, z .pre .categories) at (c .before .nan-or-zero .ensures) in
     (search needs, holding-more (t .before .loop .inv .1) (t .loop-test .taken) (ap not e) (ap (λ (t : Bool). not (not t)) (c .if1 .left)))
 
 returns-2 : tie.Need-returns-2 Inv-loop μ-loop
