@@ -1,10 +1,7 @@
 -- `shape::codes::data_code` meets its contract. Assumes nothing.
-use mathlib.Core.Path.{ap, ap₂, _∙_}
-use mathlib.Core.Bool.{Bool, not, _&&_}
 use borrow.Author.Needs.{needs}
 use Rattle.numbers.specs.Result.{firstFailing}
 use Rattle.base.specs.Decode.{decode}
-use Rattle.shape.specs.Parts.{first}
 use Rattle.shape.proofs.codes.data_code.Statement.{statement}
 use Rattle.shape.proofs.codes.data_code.Tie as tie
 
@@ -12,10 +9,8 @@ returns : tie.Need-returns
 unfolding firstFailing decode
 returns c =
     let b = c .before .before .before in
-    let whole = ap₂ _&&_ (b .before .before .before .is-whole-range .ensures) (b .before .before .is-whole-range2 .ensures) in
-    let positive = b .first .ensures ∙ ap (λ (t : Bool). first 16 (not t) 0) (b .before .lowers-positive .ensures) in
-    c .first3 .ensures
-    ∙ ap₂ (first 15) (ap not (c .before .lowers-present .ensures)) (c .before .before .first2 .ensures ∙ ap₂ (first 15) whole positive)
+    rw (c .first3 .ensures, c .before .lowers-present .ensures, c .before .before .first2 .ensures, b .first .ensures, b .before .lowers-positive .ensures)
+    (rw (b .before .before .before .is-whole-range .ensures, b .before .before .is-whole-range2 .ensures))
 
 pub data-code-spec : {M : Type 1} → statement M
 data-code-spec =
