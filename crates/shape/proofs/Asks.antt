@@ -1,5 +1,5 @@
 -- What the ends of a range are asked, by tests of one end; and of every entry, number by number. Assumes nothing.
-use mathlib.Core.Path.{_≡_, refl, ap₂, _∙_}
+use mathlib.Core.Path.{_≡_, refl}
 use mathlib.Core.Bool.{Bool, true, false, cond, not, _&&_, _||_}
 use mathlib.Core.List.{List}
 use mathlib.Core.Option.{Option, none, some}
@@ -32,7 +32,8 @@ module _ {E : Type 0} (K : Kind E) where
   suits-is (some a) none = refl
   suits-is (some a) (some c) = refl
 
-spans-is :
+-- by which of the ends are present
+pub spans-is :
     (x y : Option Float)
     → spansZero x y
     ≡ cond (isPresent x) (cond (isPresent y) (under float zeroFloat x && above float zeroFloat y) (above float zeroFloat x)) (cond (isPresent y) (under float zeroFloat y) true)
@@ -40,17 +41,6 @@ spans-is none none = refl
 spans-is none (some f) = refl
 spans-is (some d) none = refl
 spans-is (some d) (some f) = refl
-
--- by which of the ends are present
-pub spans-by :
-    (x y : Option Float) (a b : Bool) → isPresent x ≡ a → isPresent y ≡ b
-    → spansZero x y ≡ cond a (cond b (under float zeroFloat x && above float zeroFloat y) (above float zeroFloat x)) (cond b (under float zeroFloat y) true)
-spans-by x y a b e f =
-    spans-is x y
-    ∙ ap₂
-    (λ (a b : Bool). cond a (cond b (under float zeroFloat x && above float zeroFloat y) (above float zeroFloat x)) (cond b (under float zeroFloat y) true))
-    e
-    f
 
 -- ---- every entry
 

@@ -2,17 +2,15 @@
 use mathlib.Core.Path.{_≡_, refl, sym, ap, ap₂, _∙_}
 use mathlib.Core.Bool.{Bool, true, false, cond, not, _&&_}
 use mathlib.Core.List.{List, [], _∷_, _++_}
-use Prim.Native.Nat.{ℕ}
 use lib.Dec.{eqb}
 use Rattle.numbers.specs.Result.{Check, check, firstFailing}
 use Rattle.utilities.specs.Lists.{every}
 use Rattle.base.specs.Form.{floatType, intType}
 use Rattle.base.specs.Sheet.{Fields, Sheet}
-use Rattle.base.specs.Bounds.{lowersPresent, wholeLowersPresent, lowersPositive, lowersNonNegative}
 use Rattle.base.specs.declared.Component.{Component}
 use Rattle.base.specs.declared.Component.the-variants as C
 use Rattle.shape.specs.Shape.{bothPrivate, sameGroups, columnsAbsent}
-use Rattle.shape.specs.Orders.{operandChecks, unaryChecks, groupsClash, pairChecks, bothOf, moduloChecks, powerChecks, boundChecks, copyChecks, lastChecks}
+use Rattle.shape.specs.Orders.{operandChecks, unaryChecks, groupsClash, pairChecks, bothOf, boundChecks, copyChecks, lastChecks}
 use Rattle.shape.specs.Parts.{first, next, operandsCode, only, shapeChecks}
 use Rattle.shape.proofs.Refusals.{Numbered, first-append}
 
@@ -115,36 +113,8 @@ module _ (l r : Sheet) {x y : Fields} (p : x ≡ l .fields) (q : y ≡ r .fields
 
 -- ---- Modulo and Power, by the types
 
--- the test that was made of one name of the right type is one of the other
-pub types-are :
-    (a kind : ℕ) {b d : ℕ} {v t : Bool} → b ≡ d → v ≡ (eqb a kind && eqb b kind) → v ≡ t → (eqb a kind && eqb d kind) ≡ t
-types-are a kind e f g = sym (ap (λ (k : ℕ). eqb a kind && eqb k kind) e) ∙ sym f ∙ g
-
-module _ (l r : Sheet) where
-  pub modulo-int :
-      bothOf l r intType ≡ true → firstFailing (moduloChecks l r) ≡ first 15 (not (wholeLowersPresent (r .nature))) (first 16 (not (lowersPositive (r .nature))) 0)
-  unfolding firstFailing
-  modulo-int e = rw e
-
-  pub modulo-float :
-      bothOf l r intType ≡ false → bothOf l r floatType ≡ true
-      → firstFailing (moduloChecks l r) ≡ first 15 (not (lowersPresent (r .nature))) (first 16 (not (lowersPositive (r .nature))) 0)
-  unfolding firstFailing
-  modulo-float e f = rw (e, f)
-
-  pub modulo-other : bothOf l r intType ≡ false → bothOf l r floatType ≡ false → firstFailing (moduloChecks l r) ≡ 14
-  unfolding firstFailing
-  modulo-other e f = rw (e, f)
-
-  pub power-int :
-      bothOf l r intType ≡ true → firstFailing (powerChecks l r) ≡ first 15 (not (wholeLowersPresent (r .nature))) (first 16 (not (lowersNonNegative (r .nature))) 0)
-  unfolding firstFailing
-  power-int e = rw e
-
-  pub power-other : bothOf l r intType ≡ false → firstFailing (powerChecks l r) ≡ first 14 (not (bothOf l r floatType)) 0
-  unfolding firstFailing
-  power-other e = rw e (go (bothOf l r floatType))
-    where
-      go : (t : Bool) → firstFailing (cond t [] (check 14 true ∷ [])) ≡ first 14 (not t) 0
-      go true = refl
-      go false = refl
+-- 14 of Power, where the types are not both integers
+pub types-code : (t : Bool) → first 14 (not t) 0 ≡ firstFailing (cond t [] (check 14 true ∷ []))
+unfolding firstFailing
+types-code true = refl
+types-code false = refl

@@ -6,9 +6,6 @@ use borrow.Author.Needs.{needs}
 use Rattle.shape.proofs.greater_option.Statement.{statement}
 use Rattle.shape.proofs.greater_option.Tie as tie
 
-returns-2 : tie.Need-returns-2
-returns-2 c = rw (c .before .before .before .x .given .1, c .enum-told2 .given .1)
-
 returns-3 : tie.Need-returns-3
 returns-3 c =
     let x = c .before .before .before .before .before .x .given in
@@ -34,6 +31,6 @@ greater-option-spec =
     (λ c. search needs)
     (λ c. search needs)
     (λ c. search needs)
-    returns-2
+    (λ c. rw (c .before .before .before .x .given .1, c .enum-told2 .given .1))
     returns-3
     returns-4)

@@ -1,9 +1,8 @@
 -- `shape::bounds::apart` meets its contract. Assumes nothing.
-use mathlib.Core.Bool.{true, false}
 use lib.Ieee.{ofBits}
 use borrow.Author.Needs.{needs}
 use Rattle.base.specs.Code.{floatEnd}
-use Rattle.shape.proofs.Asks.{spans-by}
+use Rattle.shape.proofs.Asks.{spans-is}
 use Rattle.shape.proofs.bounds.apart.Statement.{statement}
 use Rattle.shape.proofs.bounds.apart.Tie as tie
 
@@ -13,7 +12,7 @@ returns c =
     let a = c .before .before .before .before .before .before .args in
     let lower = rw (c .before .before .before .before .float-present2 .ensures) at (c .before .before .before .if1 .taken) in
     let upper = rw (c .before .before .before .before .before .float-present .ensures) at (c .before .before .if2 .taken) in
-    rw (c .before .float-under .ensures, c .float-above .ensures, spans-by (floatEnd (a .lower)) (floatEnd (a .upper)) true true lower upper)
+    rw (c .before .float-under .ensures, c .float-above .ensures, spans-is (floatEnd (a .lower)) (floatEnd (a .upper)), lower, upper)
 
 returns-2 : tie.Need-returns-2
 unfolding ofBits
@@ -21,7 +20,7 @@ returns-2 c =
     let a = c .before .before .before .before .before .args in
     let lower = rw (c .before .before .before .float-present2 .ensures) at (c .before .before .if1 .taken) in
     let upper = rw (c .before .before .before .before .float-present .ensures) at (c .before .if2 .left) in
-    rw (c .float-above2 .ensures, spans-by (floatEnd (a .lower)) (floatEnd (a .upper)) true false lower upper)
+    rw (c .float-above2 .ensures, spans-is (floatEnd (a .lower)) (floatEnd (a .upper)), lower, upper)
 
 returns-3 : tie.Need-returns-3
 unfolding ofBits
@@ -29,7 +28,7 @@ returns-3 c =
     let a = c .before .before .before .before .before .args in
     let lower = rw (c .before .before .before .float-present2 .ensures) at (c .before .before .if1 .left) in
     let upper = rw (c .before .before .before .before .float-present .ensures) at (c .before .if3 .taken) in
-    rw (c .float-under2 .ensures, spans-by (floatEnd (a .lower)) (floatEnd (a .upper)) false true lower upper)
+    rw (c .float-under2 .ensures, spans-is (floatEnd (a .lower)) (floatEnd (a .upper)), lower, upper)
 
 returns-4 : tie.Need-returns-4
 unfolding ofBits
@@ -37,7 +36,7 @@ returns-4 c =
     let a = c .before .before .before .before .args in
     let lower = rw (c .before .before .float-present2 .ensures) at (c .before .if1 .left) in
     let upper = rw (c .before .before .before .float-present .ensures) at (c .if3 .left) in
-    rw (spans-by (floatEnd (a .lower)) (floatEnd (a .upper)) false false lower upper)
+    rw (spans-is (floatEnd (a .lower)) (floatEnd (a .upper)), lower, upper)
 
 pub apart-spec : {M : Type 1} → statement M
 apart-spec =

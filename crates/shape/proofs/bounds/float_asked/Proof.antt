@@ -6,23 +6,8 @@ use Rattle.shape.proofs.Asks.{positive-is, non-negative-is, suits-is}
 use Rattle.shape.proofs.bounds.float_asked.Statement.{statement}
 use Rattle.shape.proofs.bounds.float_asked.Tie as tie
 
-returns-3 : tie.Need-returns-3
-unfolding ofBits
-returns-3 c = rw (c .before .enum-told3 .given .1, positive-is float) (c .float-above .ensures)
-
-returns-4 : tie.Need-returns-4
-unfolding ofBits
-returns-4 c = rw (c .before .before .enum-told4 .given .1, non-negative-is float, c .before .float-present3 .ensures, c .float-under .ensures)
-
-returns-5 : tie.Need-returns-5
-unfolding ofBits
-returns-5 c = rw (c .before .before .before .enum-told5 .given .1, suits-is float, c .before .before .float-above2 .ensures, c .before .float-under2 .ensures, c .float-above3 .ensures)
-
-returns-6 : tie.Need-returns-6
-unfolding ofBits
-returns-6 c = rw (c .before .enum-told6 .given .1) (c .apart .ensures)
-
 pub float-asked-spec : {M : Type 1} → statement M
+unfolding ofBits
 float-asked-spec =
     tie.close
     (tie.spec
@@ -43,7 +28,7 @@ float-asked-spec =
     (λ c κs. search needs)
     (λ c. search needs)
     (λ c. search needs)
-    returns-3
-    returns-4
-    returns-5
-    returns-6)
+    (λ c. rw (c .before .enum-told3 .given .1, positive-is float) (c .float-above .ensures))
+    (λ c. rw (c .before .before .enum-told4 .given .1, non-negative-is float, c .before .float-present3 .ensures, c .float-under .ensures))
+    (λ c. rw (c .before .before .before .enum-told5 .given .1, suits-is float, c .before .before .float-above2 .ensures, c .before .float-under2 .ensures, c .float-above3 .ensures))
+    (λ c. rw (c .before .enum-told6 .given .1) (c .apart .ensures)))

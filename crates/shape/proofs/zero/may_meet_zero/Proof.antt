@@ -39,9 +39,6 @@ returns-2 c =
     ap not (c .values-apart .ensures ∙ ap (λ (t : ℕ). holdsFrom t 0 (valueApart narrow s)) (c .before .before .before .before .sizes-at .ensures .categories))
     ∙ sym (lists-meet-zero narrow s (b .pre .1) (c .before .if2 .taken))
 
-returns-3 : tie.Need-returns-3
-returns-3 c = sym (else-meets-zero narrow (now (c .before .before .before .before .before .args .s)) (c .before .if1 .left) (c .if2 .left))
-
 pub may-meet-zero-spec : {M : Type 1} → statement M
 may-meet-zero-spec =
     tie.close
@@ -52,4 +49,4 @@ may-meet-zero-spec =
     returns
     values-apart-requires
     returns-2
-    returns-3)
+    (λ c. sym (else-meets-zero narrow (now (c .before .before .before .before .before .args .s)) (c .before .if1 .left) (c .if2 .left))))
