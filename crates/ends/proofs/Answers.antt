@@ -1,5 +1,5 @@
--- A function's answer, from what it called and the rule's case. Assumes nothing.
-use mathlib.Core.Path.{_≡_, refl, sym, ap, ap₂, _∙_}
+-- Both ends of an answer, from the ends that a function called for. Assumes nothing.
+use mathlib.Core.Path.{_≡_, refl, ap₂, _∙_}
 use mathlib.Core.Option.{Option, some}
 use Rattle.numbers.specs.Result.{Result, ok, refused}
 use Rattle.numbers.specs.Kind.{Kind, Span}
@@ -10,10 +10,6 @@ use Rattle.ends.specs.declared.End.{End}
 use Rattle.ends.specs.declared.Ends.{Ends}
 
 module _ {E : Type 0} (bound : Option E → Bound) where
-  -- by the case of the rule that holds
-  pub ends-answer : {p q : Result (Span E)} {r : Ends} → p ≡ q → r ≡ endsOf bound q → r ≡ endsOf bound p
-  ends-answer e h = h ∙ sym (ap (endsOf bound) e)
-
   -- two ends, of which the lower's refusal comes first
   pub both-answer : (p q : Result (Option E)) {l u : End} {r : Ends} → l ≡ endOf bound p → u ≡ endOf bound q → r ≡ bothEnds l u → r ≡ endsOf bound (both p q)
   both-answer p q e f h = h ∙ ap₂ bothEnds e f ∙ go p q

@@ -1,5 +1,5 @@
 -- `ranges::column` meets its contract. Assumes nothing.
-use mathlib.Core.Path.{_≡_, refl, ap, _∙_}
+use mathlib.Core.Path.{_≡_, refl}
 use mathlib.Core.Bool.{Bool, true, false, cond, not, _&&_}
 use Prim.Native.Nat.{ℕ}
 use lib.IntN.{ℤ}
@@ -9,12 +9,9 @@ use Rattle.numbers.specs.Result.{Result}
 use Rattle.numbers.specs.Kind.{Span, whole}
 use Rattle.base.specs.Form.{intType}
 use Rattle.base.specs.Components.{numberOf}
-use Rattle.base.specs.Code.{ofWhole}
 use Rattle.base.specs.declared.Component.{Component}
 use Rattle.base.specs.declared.Component.the-variants as C
 use Rattle.ends.specs.Ends.{endRule, unknown}
-use Rattle.ends.specs.Code.{wholeSpan}
-use Rattle.ends.proofs.Answers.{ends-answer}
 use Rattle.ranges.specs.Ranges.{wholeRule}
 use Rattle.ranges.specs.Chained.{columnEnds}
 use Rattle.ranges.proofs.column.Statement.{statement}
@@ -44,22 +41,14 @@ returns c = rw (c .before .if1 .taken) (c .float-end-rule .ensures)
 returns-2 : tie.Need-returns-2
 unfolding columnEnds
 returns-2 c =
-    let a = c .before .before .before .before .args in
-    let x = wholeSpan (a .x) in
-    let y = wholeSpan (a .y) in
     let modulo = rw (c .before .before .number .ensures) at (c .before .if2 .taken) in
-    rw (c .before .before .before .if1 .left)
-    (ends-answer ofWhole (by-number (a .c) (a .data-type) x y ∙ ap (λ (t : Bool). cond t unknown (endRule whole (a .c) x y)) modulo) (c .unknown .ensures))
+    rw (c .before .before .before .if1 .left, by-number, modulo) (c .unknown .ensures)
 
 returns-3 : tie.Need-returns-3
 unfolding columnEnds
 returns-3 c =
-    let a = c .before .before .before .before .args in
-    let x = wholeSpan (a .x) in
-    let y = wholeSpan (a .y) in
     let other = rw (c .before .before .number .ensures) at (c .before .if2 .left) in
-    rw (c .before .before .before .if1 .left)
-    (ends-answer ofWhole (by-number (a .c) (a .data-type) x y ∙ ap (λ (t : Bool). cond t unknown (endRule whole (a .c) x y)) other) (c .whole-end-rule .ensures))
+    rw (c .before .before .before .if1 .left, by-number, other) (c .whole-end-rule .ensures)
 
 pub column-spec : {M : Type 1} → statement M
 column-spec =
