@@ -15,6 +15,10 @@ use Rattle.numbers.proofs.Parts.{zero-sub}
 abbrev pub back : {z : ℤ} → SFits w64 z → ℤ
 back {z} f = toZ w64 (ofZ w64 z)
 
+-- `toZ-ofZ` by its number, from which the bound is searched for
+pub reads : (z : ℤ) → SFits w64 z → toZ w64 (ofZ w64 z) ≡ z
+reads z f = toZ-ofZ f
+
 pub again : {z : ℤ} → SFits w64 z → SFits w64 (toZ w64 (ofZ w64 z))
 again f = sfits-toZ (fits-ofZ f)
 

@@ -1,11 +1,11 @@
 -- `whole_ends::abs_ends` meets its contract. Assumes nothing.
 use borrow.Author.Needs.{needs}
+use Rattle.numbers.proofs.Bits.{reads}
 use Rattle.numbers.specs.Kind.{whole}
 use Rattle.base.specs.Code.{ofWhole}
 use Rattle.ends.specs.Ends.{present, absLower, absUpper, absEnds}
 use Rattle.ends.proofs.Rules.{both-on}
 use Rattle.ends.proofs.Answers.{both-answer}
-use Rattle.whole_ends.proofs.Given.{reads}
 use Rattle.whole_ends.proofs.abs_ends.Statement.{statement}
 use Rattle.whole_ends.proofs.abs_ends.Tie as tie
 

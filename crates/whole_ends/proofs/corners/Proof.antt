@@ -1,7 +1,7 @@
 -- `whole_ends::corners` meets its contract. Assumes nothing.
 use borrow.Author.Needs.{needs}
+use Rattle.numbers.proofs.Bits.{reads}
 use Rattle.ends.specs.Ends.{corners}
-use Rattle.whole_ends.proofs.Given.{reads}
 use Rattle.whole_ends.proofs.corners.Statement.{statement}
 use Rattle.whole_ends.proofs.corners.Tie as tie
 

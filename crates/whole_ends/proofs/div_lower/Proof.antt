@@ -1,8 +1,8 @@
 -- `whole_ends::div_lower` meets its contract. Assumes nothing.
 use mir.Facts.{toZ-ofZ}
 use borrow.Author.Needs.{needs}
+use Rattle.numbers.proofs.Bits.{reads}
 use Rattle.ends.specs.Ends.{divLower}
-use Rattle.whole_ends.proofs.Given.{reads}
 use Rattle.whole_ends.proofs.div_lower.Statement.{statement}
 use Rattle.whole_ends.proofs.div_lower.Tie as tie
 

@@ -1,8 +1,8 @@
 -- `whole_ends::div_upper` meets its contract. Assumes nothing.
 use mir.Facts.{toZ-ofZ}
 use borrow.Author.Needs.{needs}
+use Rattle.numbers.proofs.Bits.{reads}
 use Rattle.ends.specs.Ends.{divUpper}
-use Rattle.whole_ends.proofs.Given.{reads}
 use Rattle.whole_ends.proofs.div_upper.Statement.{statement}
 use Rattle.whole_ends.proofs.div_upper.Tie as tie
 

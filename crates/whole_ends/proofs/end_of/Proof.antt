@@ -1,6 +1,6 @@
 -- `whole_ends::end_of` meets its contract. Assumes nothing.
 use borrow.Author.Needs.{needs}
-use Rattle.whole_ends.proofs.Given.{reads}
+use Rattle.numbers.proofs.Bits.{reads}
 use Rattle.whole_ends.proofs.end_of.Statement.{statement}
 use Rattle.whole_ends.proofs.end_of.Tie as tie
 

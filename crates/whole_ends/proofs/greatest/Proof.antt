@@ -1,7 +1,7 @@
 -- `whole_ends::greatest` meets its contract. Assumes nothing.
 use mir.Facts.{toZ-ofZ}
 use borrow.Author.Needs.{needs}
-use Rattle.whole_ends.proofs.Given.{reads}
+use Rattle.numbers.proofs.Bits.{reads}
 use Rattle.whole_ends.proofs.greatest.Statement.{statement}
 use Rattle.whole_ends.proofs.greatest.Tie as tie
 

@@ -1,7 +1,7 @@
 -- `whole_ends::least` meets its contract. Assumes nothing.
 use mir.Facts.{toZ-ofZ}
 use borrow.Author.Needs.{needs}
-use Rattle.whole_ends.proofs.Given.{reads}
+use Rattle.numbers.proofs.Bits.{reads}
 use Rattle.whole_ends.proofs.least.Statement.{statement}
 use Rattle.whole_ends.proofs.least.Tie as tie
 

@@ -1,7 +1,7 @@
 -- `whole_ends::pair_of` meets its contract. Assumes nothing.
 use borrow.Author.Needs.{needs}
+use Rattle.numbers.proofs.Bits.{reads}
 use Rattle.base.proofs.Ends.{not-whole}
-use Rattle.whole_ends.proofs.Given.{reads}
 use Rattle.whole_ends.proofs.pair_of.Statement.{statement}
 use Rattle.whole_ends.proofs.pair_of.Tie as tie
 

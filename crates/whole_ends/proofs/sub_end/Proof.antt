@@ -1,8 +1,8 @@
 -- `whole_ends::sub_end` meets its contract. Assumes nothing.
 use borrow.Author.Needs.{needs}
+use Rattle.numbers.proofs.Bits.{reads}
 use Rattle.base.proofs.Ends.{not-whole}
 use Rattle.ends.specs.Ends.{fromTwo}
-use Rattle.whole_ends.proofs.Given.{reads}
 use Rattle.whole_ends.proofs.sub_end.Statement.{statement}
 use Rattle.whole_ends.proofs.sub_end.Tie as tie
 
