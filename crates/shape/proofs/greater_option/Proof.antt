@@ -1,8 +1,6 @@
 -- `shape::greater_option` meets its contract. Assumes nothing.
-use mathlib.Core.Path.{_≡_}
-use mir.Syntax.{w64}
-use mir.Val.{toZ, ofZ}
 use borrow.Author.Needs.{needs}
+use Rattle.numbers.proofs.Bits.{reads}
 use Rattle.shape.proofs.greater_option.Statement.{statement}
 use Rattle.shape.proofs.greater_option.Tie as tie
 
@@ -10,17 +8,13 @@ returns-3 : tie.Need-returns-3
 returns-3 c =
     let x = c .before .before .before .before .before .x .given in
     let y = c .before .before .y .given in
-    let a : toZ w64 (ofZ w64 (x .0 .0)) ≡ x .0 .0 = search needs in
-    let b : toZ w64 (ofZ w64 (y .0 .0)) ≡ y .0 .0 = search needs in
-    rw (x .1, y .1, rw (a, b) at (c .if1 .taken))
+    rw (x .1, y .1, rw (reads (x .0 .0) (search needs), reads (y .0 .0) (search needs)) at (c .if1 .taken))
 
 returns-4 : tie.Need-returns-4
 returns-4 c =
     let x = c .before .before .before .before .before .x .given in
     let y = c .before .before .y .given in
-    let a : toZ w64 (ofZ w64 (x .0 .0)) ≡ x .0 .0 = search needs in
-    let b : toZ w64 (ofZ w64 (y .0 .0)) ≡ y .0 .0 = search needs in
-    rw (x .1, y .1, rw (a, b) at (c .if1 .left))
+    rw (x .1, y .1, rw (reads (x .0 .0) (search needs), reads (y .0 .0) (search needs)) at (c .if1 .left))
 
 pub greater-option-spec : {M : Type 1} → statement M
 greater-option-spec =

@@ -1,7 +1,4 @@
 -- `shape::same_option` meets its contract. Assumes nothing.
-use mathlib.Core.Path.{_≡_}
-use mir.Syntax.{w64}
-use mir.Val.{toZ, ofZ}
 use borrow.Author.Needs.{needs}
 use Rattle.shape.proofs.Values.{same-bits}
 use Rattle.shape.proofs.same_option.Statement.{statement}
@@ -11,9 +8,7 @@ returns-4 : tie.Need-returns-4
 returns-4 c =
     let x = c .before .before .before .before .x .given in
     let y = c .before .y .given in
-    let a : toZ w64 (ofZ w64 (x .0 .0)) ≡ x .0 .0 = search needs in
-    let b : toZ w64 (ofZ w64 (y .0 .0)) ≡ y .0 .0 = search needs in
-    rw (x .1, y .1) (same-bits (x .0 .0) (y .0 .0) a b)
+    rw (x .1, y .1) (same-bits (x .0 .0) (y .0 .0) (search needs) (search needs))
 
 pub same-option-spec : {M : Type 1} → statement M
 same-option-spec =

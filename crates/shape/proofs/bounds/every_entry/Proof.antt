@@ -1,15 +1,10 @@
 -- `shape::bounds::every_entry` meets its contract. Assumes nothing.
-use mathlib.Core.Path.{sym, ap, _∙_}
-use mathlib.Core.Bool.{true, false}
-use Prim.Native.Nat.{ℕ}
+use mathlib.Core.Path.{sym, ap}
 use native.Mathlib.Omega.{arith}
 use denote.Ref.{now}
 use Rattle.base.specs.Form.{narrow, isRangeNature}
-use Rattle.base.specs.Bounds.{everyEntry}
-use Rattle.base.specs.Checks.{holdsFrom}
 use Rattle.base.proofs.Passed.{passed, sized, long-enough, range-fits}
 use Rattle.base.proofs.Natures.{nature-whole-range, nature-float-range}
-use Rattle.shape.specs.Asked.{wholeAsked, floatAsked, entryAsked}
 use Rattle.shape.proofs.Asks.{every-whole, every-float, no-range-asked}
 use Rattle.shape.proofs.bounds.every_entry.Statement.{statement}
 use Rattle.shape.proofs.bounds.every_entry.Tie as tie
@@ -32,10 +27,7 @@ returns : tie.Need-returns
 returns c =
     let z = c .before .before .before in
     let s = now (z .before .before .args .s) in
-    let ask = z .before .before .args .ask in
-    c .entries-asked .ensures
-    ∙ ap (λ (n : ℕ). holdsFrom n 0 (entryAsked narrow ask false s)) (z .sizes-at .ensures .lists)
-    ∙ sym (ap (everyEntry (wholeAsked ask) (floatAsked ask)) (nature-whole-range narrow s (c .before .if1 .taken)) ∙ every-whole narrow s ask)
+    rw (nature-whole-range narrow s (c .before .if1 .taken), every-whole narrow s (z .before .before .args .ask), ← z .sizes-at .ensures .lists) (c .entries-asked .ensures)
 
 entries-asked-requires-2 : tie.Need-entries-asked-requires-2
 entries-asked-requires-2 c κs =
@@ -46,10 +38,7 @@ returns-2 : tie.Need-returns-2
 returns-2 c =
     let z = c .before .before .before .before in
     let s = now (z .before .before .args .s) in
-    let ask = z .before .before .args .ask in
-    c .entries-asked2 .ensures
-    ∙ ap (λ (n : ℕ). holdsFrom n 0 (entryAsked narrow ask true s)) (z .sizes-at .ensures .lists)
-    ∙ sym (ap (everyEntry (wholeAsked ask) (floatAsked ask)) (nature-float-range narrow s (c .before .if2 .taken)) ∙ every-float narrow s ask)
+    rw (nature-float-range narrow s (c .before .if2 .taken), every-float narrow s (z .before .before .args .ask), ← z .sizes-at .ensures .lists) (c .entries-asked2 .ensures)
 
 returns-3 : tie.Need-returns-3
 returns-3 c =

@@ -1,14 +1,10 @@
 -- `shape::zero::may_meet_zero` meets its contract. Assumes nothing.
-use mathlib.Core.Path.{sym, ap, _∙_}
-use mathlib.Core.Bool.{not}
-use Prim.Native.Nat.{ℕ}
+use mathlib.Core.Path.{sym, ap}
 use native.Mathlib.Omega.{arith}
 use denote.Ref.{now}
 use borrow.Author.Needs.{needs}
 use Rattle.base.specs.Form.{narrow, isRangeNature}
-use Rattle.base.specs.Checks.{holdsFrom}
 use Rattle.base.proofs.Passed.{passed, sized, long-enough, lists-fit}
-use Rattle.shape.specs.Asked.{valueApart}
 use Rattle.shape.proofs.Zeros.{range-meets-zero, lists-meet-zero, else-meets-zero}
 use Rattle.shape.proofs.zero.may_meet_zero.Statement.{statement}
 use Rattle.shape.proofs.zero.may_meet_zero.Tie as tie
@@ -23,9 +19,7 @@ shared-slice-read-nature c =
     omega arith
 
 returns : tie.Need-returns
-returns c =
-    let s = now (c .before .before .before .before .before .args .s) in
-    ap not (c .every-entry .ensures) ∙ sym (range-meets-zero narrow s (c .before .if1 .taken))
+returns c = rw (range-meets-zero narrow (now (c .before .before .before .before .before .args .s)) (c .before .if1 .taken), c .every-entry .ensures)
 
 values-apart-requires : tie.Need-values-apart-requires
 values-apart-requires c κs =
@@ -35,9 +29,7 @@ values-apart-requires c κs =
 returns-2 : tie.Need-returns-2
 returns-2 c =
     let b = c .before .before .before .before .before .before in
-    let s = now (b .args .s) in
-    ap not (c .values-apart .ensures ∙ ap (λ (t : ℕ). holdsFrom t 0 (valueApart narrow s)) (c .before .before .before .before .sizes-at .ensures .categories))
-    ∙ sym (lists-meet-zero narrow s (b .pre .1) (c .before .if2 .taken))
+    rw (lists-meet-zero narrow (now (b .args .s)) (b .pre .1) (c .before .if2 .taken), ← c .before .before .before .before .sizes-at .ensures .categories, c .values-apart .ensures)
 
 pub may-meet-zero-spec : {M : Type 1} → statement M
 may-meet-zero-spec =
