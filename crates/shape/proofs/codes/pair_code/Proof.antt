@@ -1,11 +1,8 @@
 -- `shape::codes::pair_code` meets its contract: part by part. Assumes nothing.
-use mathlib.Core.Path.{ap, ap₂, _∙_}
 use denote.Ref.{now}
 use borrow.Author.Needs.{needs}
 use Rattle.base.specs.Form.{narrow}
 use Rattle.base.specs.Decode.{decode}
-use Rattle.base.specs.Code.{headFields}
-use Rattle.shape.specs.Parts.{first, operandsCode}
 use Rattle.shape.proofs.Orders.{pair-is}
 use Rattle.shape.proofs.codes.pair_code.Statement.{statement}
 use Rattle.shape.proofs.codes.pair_code.Tie as tie
@@ -14,10 +11,7 @@ returns : tie.Need-returns
 unfolding decode
 returns c =
     let z = c .before .before .before .before .before .before in
-    let rest = c .before .first .ensures ∙ ap₂ (first 8) (c .before .before .before .groups-clash .ensures) (c .before .before .shape-code .ensures) in
-    c .operands-code .ensures
-    ∙ ap (operandsCode (headFields (z .args .l)) (headFields (z .args .r))) rest
-    ∙ pair-is (decode narrow (now (z .args .left))) (decode narrow (now (z .args .right))) (z .pre .0 .head) (z .pre .1 .head)
+    rw (c .operands-code .ensures, c .before .first .ensures, c .before .before .shape-code .ensures, c .before .before .before .groups-clash .ensures) (pair-is (decode narrow (now (z .args .left))) (decode narrow (now (z .args .right))) (z .pre .0 .head) (z .pre .1 .head))
 
 pub pair-code-spec : {M : Type 1} → statement M
 pair-code-spec =
