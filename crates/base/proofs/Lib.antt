@@ -11,3 +11,4 @@ pub mod Through
 pub mod ThroughFurther
 pub mod Readings
 pub mod Above
+pub mod Straight

@@ -4,14 +4,16 @@ use mathlib.Core.Bool.{not}
 use Prim.Native.Nat.{_+_, _<_, _≤_}
 use lib.Dec.{eqb}
 use lib.ListN.{length, getD}
-use mir.Syntax.{Width, w8, w32, w64, tyInt, tyBool}
+use lib.Ieee.{binary64}
+use mir.Syntax.{Width, w8, w32, w64, tyInt, tyBool, tyFloat}
 use mir.Val.{vint, vbool}
 use denote.Plain.{UInt, uint-tells, uint-makes, uint-lawful, bool-tells, bool-makes, bool-lawful}
+use denote.Floats.{FloatOf, float-lawful, float-makes}
 use denote.Signed.{SInt, sint-lawful, sint-makes}
 use denote.Builtin.{bool}
 use denote.Enum.Laws as EL
 use Rattle.bytes.specs.Le.{leAt}
-use Rattle.base.specs.Decode.{asWhole, asBits, optionAt}
+use Rattle.base.specs.Decode.{asWhole, asFloat, asBits, optionAt}
 use Rattle.base.specs.Code.{boundAt, signedOf, bitsIn}
 use Rattle.base.proofs.Reader.{Result, Scalar}
 use Rattle.base.proofs.Through.{Offset}
@@ -30,6 +32,9 @@ uint w = record { row = UInt w; mir = tyInt w; typed = λ 𝓤 H A W r u is. uin
 abbrev sint : Width → Result
 sint w = record { row = SInt w; mir = tyInt w; typed = λ 𝓤 H A W r u is. sint-lawful 𝓤 H A W w .typed r _ is .0; makes = λ 𝓤 H A W. sint-makes 𝓤 H A W w }
 
+abbrev binary : Result
+binary = record { row = FloatOf binary64; mir = tyFloat binary64; typed = λ 𝓤 H A W r u is. float-lawful 𝓤 H A W binary64 .typed r _ is .0; makes = λ 𝓤 H A W. float-makes 𝓤 H A W binary64 }
+
 abbrev truth : Result
 truth = record { row = bool; mir = tyBool; typed = λ 𝓤 H A W r u is. bool-lawful 𝓤 H A W .typed r _ is .0; makes = λ 𝓤 H A W. bool-makes 𝓤 H A W }
 
@@ -40,7 +45,7 @@ offset = record { type = uint w64; low = vint w64; tells = uint-tells w64; last 
 abbrev pub kind : Scalar
 kind = record { type = truth; low = vbool; tells = bool-tells; last = λ x. tt; silent = λ x f. refl }
 
--- `byte_in`, `flag_in`, `size_in`, `u32_in` and `i64_in`
+-- `byte_in`, `flag_in`, `size_in`, `u32_in`, `u64_in`, `i64_in` and `f64_in`
 abbrev pub byte : Offset
 byte = record { result = uint w8; Asks = λ s at. at < length s; Gives = λ s at r. r ≡ getD s at 0 }
 
@@ -53,8 +58,14 @@ size = record { result = uint w64; Asks = λ s at. at + 2 ≤ length s; Gives = 
 abbrev pub bits32 : Offset
 bits32 = record { result = uint w32; Asks = λ s at. at + 4 ≤ length s; Gives = λ s at r. r ≡ leAt 4 at s }
 
+abbrev pub bits64 : Offset
+bits64 = record { result = uint w64; Asks = λ s at. at + 8 ≤ length s; Gives = λ s at r. r ≡ leAt 8 at s }
+
 abbrev pub whole : Offset
 whole = record { result = sint w64; Asks = λ s at. at + 8 ≤ length s; Gives = λ s at r. r ≡ asWhole (leAt 8 at s) }
+
+abbrev pub float : Offset
+float = record { result = binary; Asks = λ s at. at + 8 ≤ length s; Gives = λ s at r. r ≡ asFloat (leAt 8 at s) }
 
 -- `option_i64_in`, `option_u64_in` and `bound_in`
 abbrev pub optionI64 : Further

@@ -32,7 +32,7 @@ pub fn sizes_fail(s: &[u8]) -> bool
     if form::CATEGORY_LIMIT < t {
         return true;
     }
-    s.len() != form::called_for(s[form::NATURE_AT], g, n, t)
+    s.len() != form::called_for(crate::nature_of(s), g, n, t)
 }
 
 // ---- 4, the fields of one value
@@ -44,7 +44,7 @@ fn reserved_permitted(s: &[u8]) -> bool
 {
     let mut i = form::RESERVED_AT;
     while i < form::RESERVED_END {
-        if s[i] != 0 {
+        if crate::byte_at(s, i) != 0 {
             return false;
         }
         i += 1;
@@ -56,12 +56,12 @@ fn bytes_permitted(s: &[u8]) -> bool
     requires { ⌜ narrow .arraysAt ≤ length (now s) ⌝ }
     ensures { λ r. ⌜ r ≡ bytesPermitted narrow (now (s .entry)) ⌝ }
 {
-    (s[form::NATURE_AT] <= form::LAST_NATURE)
-        & (s[form::TYPE_AT] <= form::LAST_TYPE)
-        & (s[form::NULLITY_AT] <= 1)
-        & (s[form::RELEASABLE_AT] <= 1)
-        & (s[form::NOT_EMPTY_AT] <= 1)
-        & (s[form::ORDERED_AT] <= 1)
+    (crate::nature_of(s) <= form::LAST_NATURE)
+        & (crate::byte_at(s, form::TYPE_AT) <= form::LAST_TYPE)
+        & (crate::byte_at(s, form::NULLITY_AT) <= 1)
+        & (crate::byte_at(s, form::RELEASABLE_AT) <= 1)
+        & (crate::byte_at(s, form::NOT_EMPTY_AT) <= 1)
+        & (crate::byte_at(s, form::ORDERED_AT) <= 1)
         & reserved_permitted(s)
 }
 
@@ -70,15 +70,17 @@ fn mark_permitted(s: &[u8], mark: usize, at: usize) -> bool
     requires { ⌜ (mark < length (now s)) × (at + 8 ≤ length (now s)) ⌝ }
     ensures { λ r. ⌜ r ≡ markPermitted mark at (now (s .entry)) ⌝ }
 {
-    (s[mark] == 1) | ((s[mark] == 0) & (bytes::u64_at(s, at) == 0))
+    let m = crate::byte_at(s, mark);
+    (m == 1) | ((m == 0) & (crate::u64_at(s, at) == 0))
 }
 
 fn columns_permitted(s: &[u8]) -> bool
     requires { ⌜ narrow .arraysAt ≤ length (now s) ⌝ }
     ensures { λ r. ⌜ r ≡ columnsPermitted narrow (now (s .entry)) ⌝ }
 {
-    let columns = bytes::u64_at(s, form::COLUMNS_AT);
-    (s[form::COLUMNS_MARK_AT] == 0) | ((0 < columns) & (columns <= form::COLUMN_LIMIT))
+    let columns = crate::u64_at(s, form::COLUMNS_AT);
+    (crate::byte_at(s, form::COLUMNS_MARK_AT) == 0)
+        | ((0 < columns) & (columns <= form::COLUMN_LIMIT))
 }
 
 fn values_permitted(s: &[u8]) -> bool
@@ -101,10 +103,10 @@ fn key_permitted(s: &[u8], g: usize, i: usize) -> bool
     ensures { λ r. ⌜ r ≡ keyPermitted narrow (now (s .entry)) i ⌝ }
 {
     let at = form::key_at(g, i);
-    let kind = s[at];
+    let kind = crate::byte_at(s, at);
     (0 < kind)
         & (kind <= form::LAST_KEY)
-        & ((kind != form::BOOL_KEY) | (bytes::u64_at(s, at + 1) <= 1))
+        & ((kind != form::BOOL_KEY) | (crate::u64_at(s, at + 1) <= 1))
 }
 
 fn groups_permitted(s: &[u8], g: usize) -> bool
@@ -155,12 +157,12 @@ fn number_permitted(s: &[u8], g: usize, n: usize, t: usize, i: usize) -> bool
     ensures { λ r. ⌜ r ≡ numberPermitted narrow (now (s .entry)) i ⌝ }
 {
     let at = form::number_at(g, i);
-    let number = s[at];
+    let number = crate::byte_at(s, at);
     let below = bytes::wide(number) < n;
     if i == 0 {
         return below;
     }
-    let last = s[at - 1];
+    let last = crate::byte_at(s, at - 1);
     below & (last <= number)
 }
 
@@ -169,7 +171,7 @@ fn value_permitted(s: &[u8], g: usize, n: usize, t: usize, i: usize) -> bool
     ensures { λ r. ⌜ r ≡ valuePermitted narrow (now (s .entry)) i ⌝ }
 {
     let at = form::value_at(g, t, i);
-    (s[form::NATURE_AT] != form::BOOL_LISTS) | (bytes::u64_at(s, at) <= 1)
+    (crate::nature_of(s) != form::BOOL_LISTS) | (crate::u64_at(s, at) <= 1)
 }
 
 fn lists_permitted(s: &[u8], g: usize, n: usize, t: usize) -> bool
@@ -192,7 +194,7 @@ fn nature_permitted(s: &[u8], g: usize, n: usize, t: usize) -> bool
     requires { ⌜ Sized narrow (now s) g n t ⌝ }
     ensures { λ r. ⌜ r ≡ naturePermitted narrow (now (s .entry)) ⌝ }
 {
-    let nature = s[form::NATURE_AT];
+    let nature = crate::nature_of(s);
     if nature == form::ABSENT_NATURE {
         return (n == 0) & (t == 0);
     }

@@ -1,11 +1,11 @@
 // The sheet: its form, its readers and checks, its records, and the components by their numbers.
 ghost use mathlib.Core.Path.{_≡_};
-ghost use Prim.Native.Nat.{_+_, _≤_};
-ghost use lib.ListN.{length};
+ghost use Prim.Native.Nat.{_+_, _≤_, _<_};
+ghost use lib.ListN.{length, getD};
 ghost use Rattle.bytes.specs.Le.{leAt};
 ghost use Rattle.bytes.specs.Wrote.{Wrote};
-ghost use Rattle.base.specs.Form.{narrow, place, nodeAt, lengthCalledFor};
-ghost use Rattle.base.specs.Decode.{asWhole, fieldsIn};
+ghost use Rattle.base.specs.Form.{narrow, place, byteAt, natureAt, nodeAt, lengthCalledFor};
+ghost use Rattle.base.specs.Decode.{asWhole, asFloat, fieldsIn};
 ghost use Rattle.base.specs.Checks.{read};
 ghost use Rattle.base.specs.Components.{numberOf, componentOf, familyOf, isUnary};
 ghost use Rattle.base.specs.Code.{boundAt, boundBytes, headFields, codeOf};
@@ -169,6 +169,43 @@ impl Family {
     }
 }
 
+// ---- one reading of a sheet, through its view
+
+pub fn byte_at(s: &[u8], at: usize) -> u8
+    requires { ⌜ at < length (now s) ⌝ }
+    ensures { λ r. ⌜ r ≡ getD (now (s .entry)) at 0 ⌝ }
+{
+    view::byte_in(view::view_of(s), at)
+}
+
+pub fn u32_at(s: &[u8], at: usize) -> u32
+    requires { ⌜ at + 4 ≤ length (now s) ⌝ }
+    ensures { λ r. ⌜ r ≡ leAt 4 at (now (s .entry)) ⌝ }
+{
+    view::u32_in(view::view_of(s), at)
+}
+
+pub fn u64_at(s: &[u8], at: usize) -> u64
+    requires { ⌜ at + 8 ≤ length (now s) ⌝ }
+    ensures { λ r. ⌜ r ≡ leAt 8 at (now (s .entry)) ⌝ }
+{
+    view::u64_in(view::view_of(s), at)
+}
+
+pub fn i64_at(s: &[u8], at: usize) -> i64
+    requires { ⌜ at + 8 ≤ length (now s) ⌝ }
+    ensures { λ r. ⌜ r ≡ asWhole (leAt 8 at (now (s .entry))) ⌝ }
+{
+    view::i64_in(view::view_of(s), at)
+}
+
+pub fn f64_at(s: &[u8], at: usize) -> f64
+    requires { ⌜ at + 8 ≤ length (now s) ⌝ }
+    ensures { λ r. ⌜ r ≡ asFloat (leAt 8 at (now (s .entry))) ⌝ }
+{
+    view::f64_in(view::view_of(s), at)
+}
+
 // ---- bounds
 
 // The bound at `at`: a mark, and 64 bits that are a float's or a signed number's.
@@ -224,7 +261,7 @@ pub fn length_called_for(s: &[u8]) -> usize
     let g = sizes.groups;
     let n = sizes.lists;
     let t = sizes.categories;
-    form::called_for(s[form::NATURE_AT], g, n, t)
+    form::called_for(nature_of(s), g, n, t)
 }
 
 // The fields of one value; what they are worth is for the checks to say.
@@ -258,7 +295,15 @@ pub fn node_at(s: &[u8]) -> i64
     requires { ⌜ narrow .arraysAt ≤ length (now s) ⌝ }
     ensures { λ r. ⌜ r ≡ asWhole (leAt 8 (place narrow nodeAt) (now (s .entry))) ⌝ }
 {
-    view::i64_in(view::view_of(s), form::NODE_AT)
+    i64_at(s, form::NODE_AT)
+}
+
+// The number of its nature.
+pub fn nature_of(s: &[u8]) -> u8
+    requires { ⌜ narrow .arraysAt ≤ length (now s) ⌝ }
+    ensures { λ r. ⌜ r ≡ byteAt narrow natureAt (now (s .entry)) ⌝ }
+{
+    byte_at(s, form::NATURE_AT)
 }
 
 // ---- checks 3 to 5

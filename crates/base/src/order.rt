@@ -88,7 +88,7 @@ pub fn bounds_fail(s: &[u8]) -> bool
     let sizes = crate::sizes_at(s);
     let g = sizes.groups;
     let n = sizes.lists;
-    let nature = s[form::NATURE_AT];
+    let nature = crate::nature_of(s);
     if nature == form::WHOLE_RANGE {
         return !entries_hold(s, false, g, n);
     }

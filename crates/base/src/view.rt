@@ -6,7 +6,7 @@ ghost use Prim.Native.Nat.{_+_, _≤_, _<_};
 ghost use lib.ListN.{length, getD};
 ghost use lib.Dec.{eqb};
 ghost use Rattle.bytes.specs.Le.{leAt};
-ghost use Rattle.base.specs.Decode.{asWhole, asBits, optionAt};
+ghost use Rattle.base.specs.Decode.{asWhole, asFloat, asBits, optionAt};
 ghost use Rattle.base.specs.Code.{boundAt, signedOf, bitsIn};
 use crate::Bound;
 use crate::OptionI64;
@@ -118,6 +118,20 @@ pub fn i64_in<'a>(v: SheetView<'a>, at: usize) -> i64
     ensures { λ r. ⌜ r ≡ asWhole (leAt 8 at (now (v .entry .bytes))) ⌝ }
 {
     bytes::i64_at(v.bytes, at)
+}
+
+pub fn u64_in<'a>(v: SheetView<'a>, at: usize) -> u64
+    requires { ⌜ at + 8 ≤ length (now (v .bytes)) ⌝ }
+    ensures { λ r. ⌜ r ≡ leAt 8 at (now (v .entry .bytes)) ⌝ }
+{
+    bytes::u64_at(v.bytes, at)
+}
+
+pub fn f64_in<'a>(v: SheetView<'a>, at: usize) -> f64
+    requires { ⌜ at + 8 ≤ length (now (v .bytes)) ⌝ }
+    ensures { λ r. ⌜ r ≡ asFloat (leAt 8 at (now (v .entry .bytes))) ⌝ }
+{
+    bytes::f64_at(v.bytes, at)
 }
 
 pub fn option_i64_in<'a>(v: SheetView<'a>, mark: usize, at: usize) -> OptionI64

@@ -27,7 +27,7 @@ called-for-requires c κs =
 returns : tie.Need-returns
 returns c =
     let sizes = c .before .before .sizes-at .ensures in
-    rw (c .called-for .ensures, sizes .groups, sizes .lists, sizes .categories)
+    rw (c .called-for .ensures, c .before .nature-of .ensures, sizes .groups, sizes .lists, sizes .categories)
 
 pub length-called-for-spec : {M : Type 1} → statement M
-length-called-for-spec = tie.close (tie.spec (λ c κs. search needs) (λ c. search needs) called-for-requires returns)
+length-called-for-spec = tie.close (tie.spec (λ c κs. search needs) (λ c κs. search needs) called-for-requires returns)

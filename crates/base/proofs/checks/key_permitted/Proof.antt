@@ -6,7 +6,7 @@ use Rattle.base.proofs.checks.key_permitted.Tie as tie
 returns : tie.Need-returns
 returns c =
     let k = c .before .before in
-    rw (c .u64-at .ensures, k .key-at .ensures, k .before .before .pre .0 .groups)
+    rw (c .u64-at .ensures, c .before .byte-at .ensures, k .key-at .ensures, k .before .before .pre .0 .groups)
 
 pub key-permitted-spec : {M : Type 1} → statement M
-key-permitted-spec = tie.close (tie.spec (λ c κs. search needs) (λ c. search needs) (λ c. search needs) (λ c κs. search needs) returns)
+key-permitted-spec = tie.close (tie.spec (λ c κs. search needs) (λ c κs. search needs) (λ c. search needs) (λ c κs. search needs) returns)

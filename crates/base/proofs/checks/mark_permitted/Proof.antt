@@ -4,7 +4,7 @@ use Rattle.base.proofs.checks.mark_permitted.Statement.{statement}
 use Rattle.base.proofs.checks.mark_permitted.Tie as tie
 
 returns : tie.Need-returns
-returns c = rw (c .u64-at .ensures)
+returns c = rw (c .before .byte-at .ensures, c .u64-at .ensures)
 
 pub mark-permitted-spec : {M : Type 1} → statement M
-mark-permitted-spec = tie.close (tie.spec (λ c. search needs) (λ c. search needs) (λ c κs. search needs) returns)
+mark-permitted-spec = tie.close (tie.spec (λ c κs. search needs) (λ c κs. search needs) returns)

@@ -20,7 +20,7 @@ returns c =
     let g = groupCount narrow (now (a .s)) in
     let f = b .before .before .pre .0 in
     let at = b .number-at .ensures in
-    let here = c .before .wide .ensures .0 ∙ number-is (now (a .s)) g (a .i) {k = b .number-at .result} (omega arith) in
+    let here = c .before .wide .ensures .0 ∙ c .before .before .byte-at .ensures ∙ number-is (now (a .s)) g (a .i) {k = b .number-at .result} (omega arith) in
     and-yes (ap₂ ltb here (f .lists)) (rw (eq-eqb (a .i) 0 (c .if1 .taken)))
 
 returns-2 : tie.Need-returns-2
@@ -31,8 +31,8 @@ returns-2 c =
     let f = b .before .before .pre .0 in
     let at = b .number-at .ensures in
     let some = c .before .if1 .left in
-    let here = number-is (now (a .s)) g (a .i) {k = b .number-at .result} (omega arith) in
-    let last = number-is (now (a .s)) g (a .i - 1) {k = b .number-at .result - 1} (omega arith) in
+    let here = c .before .before .before .byte-at .ensures ∙ number-is (now (a .s)) g (a .i) {k = b .number-at .result} (omega arith) in
+    let last = c .byte-at2 .ensures ∙ number-is (now (a .s)) g (a .i - 1) {k = b .number-at .result - 1} (omega arith) in
     ap₂ _&&_ (ap₂ ltb (c .before .before .wide .ensures .0 ∙ here) (f .lists)) (rw (ne-eqb (a .i) 0 some) (ap₂ leb last here))
 
 pub number-permitted-spec : {M : Type 1} → statement M
@@ -40,9 +40,9 @@ number-permitted-spec =
     tie.close
     (tie.spec
     (λ c κs. search needs)
-    (λ c. search needs)
+    (λ c κs. search needs)
     (λ c κs. search needs)
     returns
     (λ c. search needs)
-    (λ c. search needs)
+    (λ c κs. search needs)
     returns-2)

@@ -3,7 +3,6 @@ use mathlib.Core.Path.{_≡_, refl, ap}
 use mathlib.Core.Bool.{true, false, not}
 use Prim.Native.Nat.{_≤_, _-_}
 use lib.Dec.{eqb}
-use lib.ListN.{getD}
 use denote.Ref.{now}
 use borrow.Author.Tests.{eq-eqb, ne-eqb}
 use borrow.Author.Needs.{needs}
@@ -21,22 +20,22 @@ abbrev μ-loop : tie.MeasureT-loop
 μ-loop s i₀ i = 32 - i
 
 loop-holds : tie.Need-loop-holds Inv-loop μ-loop
-loop-holds c = (search needs, holding-start (λ k. eqb (byteAt narrow k (now (c .args .s))) 0) 32 25)
+loop-holds c = (search needs, holding-start (λ k. eqb (byteAt narrow k (now (c .before .args .s))) 0) 32 25)
 
 returns : tie.Need-returns Inv-loop μ-loop
 returns c =
     let t = c .before .before in
-    let s = now (t .before .before .args .s) in
+    let s = now (t .before .before .before .args .s) in
     let i = t .before .loop .i in
-    let no : eqb (byteAt narrow i s) 0 ≡ false = rw (byte-is i s) (ne-eqb (getD s i 0) 0 (c .if1 .taken)) in
+    let no : eqb (byteAt narrow i s) 0 ≡ false = rw (byte-is i s, ← c .before .byte-at .ensures) (ne-eqb (c .before .byte-at .result) 0 (c .if1 .taken)) in
     holding-failed (t .before .loop .inv .1) (t .loop-test .taken) refl (ap not no)
 
 loop-again : tie.Need-loop-again Inv-loop μ-loop
 loop-again c =
     let t = c .before .before in
-    let s = now (t .before .before .args .s) in
+    let s = now (t .before .before .before .args .s) in
     let i = t .before .loop .i in
-    let yes : eqb (byteAt narrow i s) 0 ≡ true = rw (byte-is i s) (eq-eqb (getD s i 0) 0 (c .if1 .left)) in
+    let yes : eqb (byteAt narrow i s) 0 ≡ true = rw (byte-is i s, ← c .before .byte-at .ensures) (eq-eqb (c .before .byte-at .result) 0 (c .if1 .left)) in
     (search needs, holding-more (t .before .loop .inv .1) (t .loop-test .taken) refl (ap not yes))
 
 returns-2 : tie.Need-returns-2 Inv-loop μ-loop
@@ -49,7 +48,7 @@ reserved-permitted-spec =
     Inv-loop
     μ-loop
     loop-holds
-    (λ c. search needs)
+    (λ c κs. search needs)
     returns
     (λ c. search needs)
     (λ c. search needs)

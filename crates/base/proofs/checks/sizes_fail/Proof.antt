@@ -57,7 +57,7 @@ returns-5 c =
     let g : groupCount narrow s ≤ narrow .groupLimit = omega arith in
     let n : listCount narrow s ≤ narrow .listLimit = omega arith in
     let t : categoryCount narrow s ≤ narrow .categoryLimit = omega arith in
-    let l : c .called-for .result ≡ lengthCalledFor narrow s = rw (c .called-for .ensures, z .groups, z .lists, z .categories) in
+    let l : c .called-for .result ≡ lengthCalledFor narrow s = rw (c .called-for .ensures, c .before .nature-of .ensures, z .groups, z .lists, z .categories) in
     rw (
       le-ltb (length s) (narrow .arraysAt) (c .before .before .before .before .before .before .if1 .left),
       le-ltb (narrow .groupLimit) (groupCount narrow s) g,
@@ -75,6 +75,6 @@ sizes-fail-spec =
     returns-2
     returns-3
     returns-4
-    (λ c. search needs)
+    (λ c κs. search needs)
     (λ c κs. search needs)
     returns-5)

@@ -7,7 +7,7 @@ returns : tie.Need-returns
 returns c =
     let v = c .before .before in
     let f = v .before .before .pre .0 in
-    rw (c .u64-at .ensures, v .value-at .ensures, f .groups, f .categories)
+    rw (c .u64-at .ensures, c .before .nature-of .ensures, v .value-at .ensures, f .groups, f .categories)
 
 pub value-permitted-spec : {M : Type 1} → statement M
-value-permitted-spec = tie.close (tie.spec (λ c κs. search needs) (λ c. search needs) (λ c κs. search needs) returns)
+value-permitted-spec = tie.close (tie.spec (λ c κs. search needs) (λ c κs. search needs) (λ c κs. search needs) returns)
