@@ -169,7 +169,7 @@ pub fn every_entry(s: &[u8], ask: Ask) -> bool
     let sizes = base::sizes_at(s);
     let g = sizes.groups;
     let n = sizes.lists;
-    let nature = s[form::NATURE_AT];
+    let nature = base::nature_of(s);
     if nature == form::WHOLE_RANGE {
         return entries_asked(s, ask, false, g, n);
     }
@@ -183,7 +183,7 @@ pub fn is_whole_range(s: &[u8]) -> bool
     requires { ⌜ sizesFail narrow (now s) ≡ false ⌝ }
     ensures { λ r. ⌜ r ≡ isWholeRange (natureIn narrow (now (s .entry))) ⌝ }
 {
-    s[form::NATURE_AT] == form::WHOLE_RANGE
+    base::nature_of(s) == form::WHOLE_RANGE
 }
 
 // `lower_float` gives its list.

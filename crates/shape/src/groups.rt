@@ -17,10 +17,10 @@ fn same_group(left: &[u8], right: &[u8], g: usize, i: usize) -> bool
 {
     let partition = form::partition_at(i);
     let key = form::key_at(g, i);
-    let x = bytes::i64_at(left, key + 1);
-    let y = bytes::i64_at(right, key + 1);
-    (bytes::u32_at(left, partition) == bytes::u32_at(right, partition))
-        & (left[key] == right[key])
+    let x = base::i64_at(left, key + 1);
+    let y = base::i64_at(right, key + 1);
+    (base::u32_at(left, partition) == base::u32_at(right, partition))
+        & (base::byte_at(left, key) == base::byte_at(right, key))
         & (x == y)
 }
 

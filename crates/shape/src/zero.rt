@@ -27,7 +27,7 @@ fn values_apart(s: &[u8], g: usize, n: usize, t: usize) -> bool
 {
     let mut i = 0;
     while i < t {
-        let x = bytes::f64_at(s, form::value_at(g, t, i));
+        let x = base::f64_at(s, form::value_at(g, t, i));
         if nan_or_zero(x) {
             return false;
         }
@@ -44,7 +44,7 @@ pub fn may_meet_zero(s: &[u8]) -> bool
     let g = sizes.groups;
     let n = sizes.lists;
     let t = sizes.categories;
-    let nature = s[form::NATURE_AT];
+    let nature = base::nature_of(s);
     if nature == form::FLOAT_RANGE {
         return !bounds::every_entry(s, Ask::Apart);
     }
