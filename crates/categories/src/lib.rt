@@ -74,10 +74,10 @@ fn list_into(s: &[u8], j: usize, out: &mut [i64]) -> usize
         let number = form::number_at(g, i);
         let at = form::value_at(g, t, i);
         i += 1;
-        if bytes::wide(s[number]) != j {
+        if bytes::wide(base::byte_at(s, number)) != j {
             continue;
         }
-        let v = bytes::i64_at(s, at);
+        let v = base::i64_at(s, at);
         // There is room for every category of a sheet.
         let Noted::At(m) = utilities::note_hinted(out, n, v, &mut hints) else {
             return n;

@@ -53,8 +53,8 @@ number-at-requires c κs = let f = c .before .loop .inv .0 in (f .groupsWithin, 
 value-at-requires : tie.Need-value-at-requires Inv-loop μ-loop
 value-at-requires c κs = let f = c .before .before .loop .inv .0 in (f .groupsWithin, f .categoriesWithin, omega arith)
 
-shared-slice-read-wide : tie.Need-shared-slice-read-wide Inv-loop μ-loop
-shared-slice-read-wide c = let f = c .before .before .before .before .loop .inv .0 in omega (arith, f .room, c .before .before .number-at .ensures)
+byte-at-requires : tie.Need-byte-at-requires Inv-loop μ-loop
+byte-at-requires c κs = let f = c .before .before .before .loop .inv .0 in omega (arith, f .room, c .before .number-at .ensures)
 
 loop-again : tie.Need-loop-again Inv-loop μ-loop
 loop-again c =
@@ -64,7 +64,7 @@ loop-again c =
     let s = now (a .s) in
     let g = p .before .before .before .sizes-at .result .groups in
     let t = p .before .before .before .sizes-at .result .categories in
-    let other : listNumber narrow s g (l .i) ≡ a .j → ⊥ = λ e. c .if1 .taken (c .before .wide .ensures .0 ∙ number-is s g (l .i) (p .number-at .ensures) ∙ e) in
+    let other : listNumber narrow s g (l .i) ≡ a .j → ⊥ = λ e. c .if1 .taken (c .before .wide .ensures .0 ∙ c .before .before .byte-at .ensures ∙ number-is s g (l .i) (p .number-at .ensures) ∙ e) in
     (l .inv .0, search needs, omega arith, l .inv .3, l .inv .4, taking-same (l .inv .5) (list-skips narrow s asWhole g t (a .j) (l .i) (p .before .loop-test .taken) other))
 
 i64-at-requires : tie.Need-i64-at-requires Inv-loop μ-loop
@@ -109,7 +109,8 @@ loop-again-2 c =
     let back : v ≡ z = search needs in
     let read = back ∙ n .before .before .before .i64-at .ensures ∙ ap (λ (k : ℕ). asWhole (leAt 8 k s)) (q .value-at .ensures) in
     let begins = notes-at (l .n) v (l .out) (n .note-hinted .last .0) (m .m .given .1) (n .note-hinted .ensures .0) in
-    let own = sym (number-is s g (l .i) (p .number-at .ensures)) ∙ sym (n .before .before .before .before .before .wide .ensures .0) ∙ n .before .before .before .before .if1 .left in
+    let w = n .before .before .before .before .before in
+    let own = sym (number-is s g (l .i) (p .number-at .ensures)) ∙ sym (w .wide .ensures .0 ∙ w .before .byte-at .ensures) ∙ n .before .before .before .before .if1 .left in
     let has = list-has narrow s asWhole g t (a .j) (l .i) (p .before .loop-test .taken) own in
     let size : m .m .given .0 .0 ≤ l .i + 1 = omega (arith, begins .count, noted-length eqZ (take (l .n) (l .out)) v, length-take-le (l .n) (l .out) (begins-room (l .inv .5 .begins)), l .inv .2) in
     (l .inv .0, omega (arith, p .before .loop-test .taken), size, n .note-hinted .kept .0 ∙ l .inv .3, hinting-at (l .n) (n .note-hinted .last .0) (m .m .given .1) (n .note-hinted .ensures .1), taking-note (l .inv .5) has read begins)
@@ -136,7 +137,7 @@ list-into-spec =
     number-at-requires
     value-at-requires
     (λ c. search needs)
-    shared-slice-read-wide
+    byte-at-requires
     (λ c κs. search needs)
     (λ c. search needs)
     loop-again
