@@ -70,8 +70,8 @@ fn propagate_binary_categorical_nature(
     requires { ⌜ Lists (now left) × Lists (now right) × Ready columns (now first) (now second) × Reached c data_type (now right) ⌝ }
     ensures { λ r. ⌜ (derivedIn r (now (first .exit)) (now (second .exit)) ≡ inWriting narrow (listsPair (narrow .categoryLimit) c data_type columns (natureIn narrow (now (left .entry))) (natureIn narrow (now (right .entry))))) × Within r ⌝ }
 {
-    let x = left[form::NATURE_AT];
-    let y = right[form::NATURE_AT];
+    let x = base::nature_of(left);
+    let y = base::nature_of(right);
     let l = base::sizes_at(left);
     let k = lists_code(x, l.lists);
     if k != 0 {
@@ -106,7 +106,7 @@ fn propagate_unary_categorical_nature(
     requires { ⌜ Lists (now s) × Ready columns (now first) (now second) × (hasRule (familyOf c) ≡ true) ⌝ }
     ensures { λ r. ⌜ (derivedIn r (now (first .exit)) (now (second .exit)) ≡ inWriting narrow (listsAlone (narrow .categoryLimit) c data_type columns (natureIn narrow (now (s .entry))))) × Within r ⌝ }
 {
-    let x = s[form::NATURE_AT];
+    let x = base::nature_of(s);
     let sizes = base::sizes_at(s);
     let k = lists_code(x, sizes.lists);
     if k != 0 {
@@ -130,8 +130,8 @@ pub fn propagate_binary_nature(
     requires { ⌜ Read (now left) × Read (now right) × Ready columns (now first) (now second) × Reached c data_type (now right) ⌝ }
     ensures { λ r. ⌜ (derivedIn r (now (first .exit)) (now (second .exit)) ≡ inWriting narrow (binaryNature (narrow .categoryLimit) c data_type columns (natureIn narrow (now (left .entry))) (natureIn narrow (now (right .entry))))) × Within r ⌝ }
 {
-    let x = left[form::NATURE_AT];
-    let y = right[form::NATURE_AT];
+    let x = base::nature_of(left);
+    let y = base::nature_of(right);
     if x == form::ABSENT_NATURE {
         return nothing_stated();
     }
@@ -174,7 +174,7 @@ pub fn propagate_unary_nature(
     requires { ⌜ Read (now s) × Ready columns (now first) (now second) × (hasRule (familyOf c) ≡ true) ⌝ }
     ensures { λ r. ⌜ (derivedIn r (now (first .exit)) (now (second .exit)) ≡ inWriting narrow (unaryNature (narrow .categoryLimit) c data_type columns (natureIn narrow (now (s .entry))))) × Within r ⌝ }
 {
-    let x = s[form::NATURE_AT];
+    let x = base::nature_of(s);
     if x == form::ABSENT_NATURE {
         return nothing_stated();
     }

@@ -1,11 +1,11 @@
 -- `transforms::natures::propagate_binary_categorical_nature` meets its contract. Assumes nothing.
-use mathlib.Core.Path.{sym, ap, _∙_}
+use mathlib.Core.Path.{_≡_, sym, ap, _∙_}
 use native.Mathlib.Omega.{arith}
 use denote.Ref.{now}
 use borrow.Author.Needs.{needs}
 use borrow.Author.Tests.{not-true, not-false}
 use Rattle.numbers.specs.Result.{Result}
-use Rattle.base.specs.Form.{narrow}
+use Rattle.base.specs.Form.{narrow, byteAt, natureAt}
 use Rattle.base.specs.Sheet.{Nature}
 use Rattle.base.proofs.Passed.{passed, long-enough}
 use Rattle.writer.specs.Written.{inWriting}
@@ -13,15 +13,15 @@ use Rattle.transforms.proofs.Listing.{Fine, fine, is-whole, fine-listed
 use Rattle.transforms.proofs.natures.propagate_binary_categorical_nature.Statement.{statement}
 use Rattle.transforms.proofs.natures.propagate_binary_categorical_nature.Tie as tie
 
-shared-slice-read-x : tie.Need-shared-slice-read-x
-shared-slice-read-x c =
-    let b = c .before .before .before .before .before in
-    let long = long-enough (passed narrow (now (b .args .left)) (b .pre .0 .read .sizes)) in omega arith
+nature-of-requires : tie.Need-nature-of-requires
+nature-of-requires c κs =
+    let b = c .before .before .before .before in
+    long-enough (passed narrow (now (b .args .left)) (b .pre .0 .read .sizes))
 
-shared-slice-read-y : tie.Need-shared-slice-read-y
-shared-slice-read-y c =
-    let b = c .before .before .before .before .before .before in
-    let long = long-enough (passed narrow (now (b .args .right)) (b .pre .1 .read .sizes)) in omega arith
+nature-of-requires-2 : tie.Need-nature-of-requires-2
+nature-of-requires-2 c κs =
+    let b = c .before .before .before .before .before in
+    long-enough (passed narrow (now (b .args .right)) (b .pre .1 .read .sizes))
 
 sizes-at-requires : tie.Need-sizes-at-requires
 sizes-at-requires c κs =
@@ -33,15 +33,28 @@ returns c =
     let z = c .before .before in
     let b = z .before .before .before .before .before .before .before in
     let a = b .args in
-    let e = left-fails (narrow .categoryLimit) (a .c) (a .data-type) (a .columns) (now (a .left)) (now (a .right)) (b .pre .0) (z .sizes-at .ensures .lists) (c .before .lists-code .ensures) (c .if1 .taken) in
+    let e = left-fails (narrow .categoryLimit) (a .c) (a .data-type) (a .columns) (now (a .left)) (now (a .right)) (b .pre .0) (z .sizes-at .ensures .lists) (rw (z .before .before .nature-of .ensures) at (c .before .lists-code .ensures)) (c .if1 .taken) in
     (ap (λ (g : Result Nature). inWriting narrow g) (sym e), tt)
 
 -- 19 and 20 have passed, of left and then of right
 left-passes : (c : tie.Else1) → Fine (now (c .before .before .before .before .before .before .before .before .before .args .left))
-left-passes c = fine (c .before .before .before .before .before .before .before .before .before .pre .0) (c .before .before .sizes-at .ensures .lists) (c .before .lists-code .ensures) (c .if1 .left)
+left-passes c =
+    let k = c .before .before .before .before in
+    fine (k .before .before .before .before .before .pre .0) (c .before .before .sizes-at .ensures .lists) (rw (k .nature-of .ensures) at (c .before .lists-code .ensures)) (c .if1 .left)
 
 right-passes : (c : tie.Else2) → Fine (now (c .before .before .before .before .before .before .before .before .before .before .before .before .args .right))
-right-passes c = fine (c .before .before .before .before .before .before .before .before .before .before .before .before .pre .1) (c .before .before .sizes-at2 .ensures .lists) (c .before .lists-code2 .ensures) (c .if2 .left)
+right-passes c =
+    let k = c .before .before .before .before .before .before in
+    fine (k .before .before .before .before .before .before .pre .1) (c .before .before .sizes-at2 .ensures .lists) (rw (k .nature-of2 .ensures) at (c .before .lists-code2 .ensures)) (c .if2 .left)
+
+-- of one kind, and then of whole numbers
+equal : (c : tie.Else3) → byteAt narrow natureAt (now (c .before .before .before .before .before .before .before .before .before .before .before .before .before .args .left)) ≡ byteAt narrow natureAt (now (c .before .before .before .before .before .before .before .before .before .before .before .before .before .args .right))
+equal c =
+    let k = c .before .before .before .before .before .before .before in
+    sym (k .before .nature-of .ensures) ∙ c .if3 .left ∙ k .nature-of2 .ensures
+
+whole : (c : tie.Else4) → byteAt narrow natureAt (now (c .before .before .before .before .before .before .before .before .before .before .before .before .before .before .args .left)) ≡ 3
+whole c = is-whole (left-passes (c .before .before .before .before .before)) (λ e. c .if4 .left (c .before .before .before .before .before .before .before .before .before .nature-of .ensures ∙ e))
 
 sizes-at-requires-2 : tie.Need-sizes-at-requires-2
 sizes-at-requires-2 c κs =
@@ -53,7 +66,7 @@ returns-2 c =
     let z = c .before .before in
     let b = z .before .before .before .before .before .before .before .before .before .before in
     let a = b .args in
-    let e = right-fails (narrow .categoryLimit) (a .c) (a .data-type) (a .columns) (now (a .left)) (now (a .right)) (left-passes (z .before)) (b .pre .1) (z .sizes-at2 .ensures .lists) (c .before .lists-code2 .ensures) (c .if2 .taken) in
+    let e = right-fails (narrow .categoryLimit) (a .c) (a .data-type) (a .columns) (now (a .left)) (now (a .right)) (left-passes (z .before)) (b .pre .1) (z .sizes-at2 .ensures .lists) (rw (z .before .before .before .before .nature-of2 .ensures) at (c .before .lists-code2 .ensures)) (c .if2 .taken) in
     (ap (λ (g : Result Nature). inWriting narrow g) (sym e), tt)
 
 returns-3 : tie.Need-returns-3
@@ -62,7 +75,8 @@ returns-3 c =
     let a = b .args in
     let f = left-passes (c .before .before .before .before) in
     let g = right-passes (c .before) in
-    let e = unequal-lists (narrow .categoryLimit) (a .c) (a .data-type) (a .columns) (now (a .left)) (now (a .right)) f g (c .if3 .taken) in
+    let k = c .before .before .before .before .before .before .before in
+    let e = unequal-lists (narrow .categoryLimit) (a .c) (a .data-type) (a .columns) (now (a .left)) (now (a .right)) f g (λ e. c .if3 .taken (k .before .nature-of .ensures ∙ e ∙ sym (k .nature-of2 .ensures))) in
     (ap (λ (g : Result Nature). inWriting narrow g) (sym e), tt)
 
 returns-4 : tie.Need-returns-4
@@ -71,7 +85,7 @@ returns-4 c =
     let a = b .args in
     let f = left-passes (c .before .before .before .before .before) in
     let g = right-passes (c .before .before) in
-    let e = bool-pair (narrow .categoryLimit) (a .c) (a .data-type) (a .columns) (now (a .left)) (now (a .right)) f g (c .before .if3 .left) (c .if4 .taken) in
+    let e = bool-pair (narrow .categoryLimit) (a .c) (a .data-type) (a .columns) (now (a .left)) (now (a .right)) f g (equal (c .before)) (sym (c .before .before .before .before .before .before .before .before .before .nature-of .ensures) ∙ c .if4 .taken) in
     (ap (λ (g : Result Nature). inWriting narrow g) (sym e), tt)
 
 returns-5 : tie.Need-returns-5
@@ -82,7 +96,7 @@ returns-5 c =
     let f = left-passes (h .before .before .before .before .before .before) in
     let g = right-passes (h .before .before .before) in
     let none = sym (h .has-rule .ensures) ∙ not-true (h .has-rule .result) (c .if5 .taken) in
-    let e = no-rule (narrow .categoryLimit) (a .c) (a .data-type) (a .columns) (now (a .left)) (now (a .right)) f g (h .before .before .if3 .left) (is-whole f (h .before .if4 .left)) (b .pre .3) none in
+    let e = no-rule (narrow .categoryLimit) (a .c) (a .data-type) (a .columns) (now (a .left)) (now (a .right)) f g (equal (h .before .before)) (whole (h .before)) (b .pre .3) none in
     (ap (λ (g : Result Nature). inWriting narrow g) (sym e), tt)
 
 lists-pair-requires : tie.Need-lists-pair-requires
@@ -91,10 +105,9 @@ lists-pair-requires c κs =
     let ready = w .before .before .before .before .before .before .before .before .before .before .before .before .before .before .pre .2 in
     let f = left-passes (w .before .before .before .before .before) in
     let g = right-passes (w .before .before) in
-    let whole = is-whole f (w .if4 .left) in
     let first = ready .first-room in
     let second = ready .second-room in
-    ((fine-listed f whole, fine-listed g (sym (w .before .if3 .left) ∙ whole), ready .some-column, ready .within), (omega arith, omega arith))
+    ((fine-listed f (whole w), fine-listed g (sym (equal (w .before)) ∙ whole w), ready .some-column, ready .within), (omega arith, omega arith))
 
 returns-6 : tie.Need-returns-6
 returns-6 c =
@@ -106,15 +119,15 @@ returns-6 c =
     let f = left-passes (w .before .before .before .before .before) in
     let g = right-passes (w .before .before) in
     let has = sym (h .has-rule .ensures) ∙ not-false (h .has-rule .result) (d .before .before .before .if5 .left) in
-    let e = pair-ruled (narrow .categoryLimit) (a .c) (a .data-type) (a .columns) (now (a .left)) (now (a .right)) f g (w .before .if3 .left) (is-whole f (w .if4 .left)) has in
+    let e = pair-ruled (narrow .categoryLimit) (a .c) (a .data-type) (a .columns) (now (a .left)) (now (a .right)) f g (equal (w .before)) (whole w) has in
     (d .lists-pair .ensures .0 ∙ ap (λ (g : Result Nature). inWriting narrow g) (sym e), d .lists-pair .ensures .1)
 
 pub propagate-binary-categorical-nature-spec : {M : Type 1} → statement M
 propagate-binary-categorical-nature-spec =
     tie.close
     (tie.spec
-    shared-slice-read-x
-    shared-slice-read-y
+    nature-of-requires
+    nature-of-requires-2
     sizes-at-requires
     (λ c κs. search needs)
     returns

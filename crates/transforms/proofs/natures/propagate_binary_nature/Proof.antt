@@ -1,12 +1,13 @@
 -- `transforms::natures::propagate_binary_nature` meets its contract. Assumes nothing.
-use mathlib.Core.Path.{sym, ap, _∙_}
+use mathlib.Core.Path.{_≡_, sym, ap, _∙_}
 use native.Mathlib.Omega.{arith}
 use denote.Ref.{now}
 use borrow.Author.Needs.{needs}
 use borrow.Author.Tests.{ne-eqb}
 use Rattle.numbers.specs.Result.{Result}
-use Rattle.base.specs.Form.{narrow, byteAt, natureAt, isRangeNature}
+use Rattle.base.specs.Form.{narrow, isRangeNature}
 use Rattle.base.specs.Sheet.{Nature}
+use Rattle.base.specs.Encode.{natureNumber}
 use Rattle.base.specs.Decode.{natureIn}
 use Rattle.base.proofs.Passed.{passed, long-enough}
 use Rattle.writer.specs.Written.{inWriting}
@@ -15,22 +16,29 @@ use Rattle.transforms.proofs.Sorted.{number-of, absent-left, absent-rig
 use Rattle.transforms.proofs.natures.propagate_binary_nature.Statement.{statement}
 use Rattle.transforms.proofs.natures.propagate_binary_nature.Tie as tie
 
-shared-slice-read-x : tie.Need-shared-slice-read-x
-shared-slice-read-x c =
-    let b = c .before .before .before .before .before in
-    let long = long-enough (passed narrow (now (b .args .left)) (b .pre .0 .sizes)) in omega arith
+nature-of-requires : tie.Need-nature-of-requires
+nature-of-requires c κs =
+    let b = c .before .before .before .before in
+    long-enough (passed narrow (now (b .args .left)) (b .pre .0 .sizes))
 
-shared-slice-read-y : tie.Need-shared-slice-read-y
-shared-slice-read-y c =
-    let b = c .before .before .before .before .before .before in
-    let long = long-enough (passed narrow (now (b .args .right)) (b .pre .1 .sizes)) in omega arith
+nature-of-requires-2 : tie.Need-nature-of-requires-2
+nature-of-requires-2 c κs =
+    let b = c .before .before .before .before .before in
+    long-enough (passed narrow (now (b .args .right)) (b .pre .1 .sizes))
+
+-- the numbers of the two natures are those that were read
+left-is : (c : tie.After-nature-of2) → natureNumber (natureIn narrow (now (c .before .before .before .before .before .before .args .left))) ≡ c .before .nature-of .result
+left-is c = number-of (now (c .before .before .before .before .before .before .args .left)) (c .before .before .before .before .before .before .pre .0) ∙ sym (c .before .nature-of .ensures)
+
+right-is : (c : tie.After-nature-of2) → natureNumber (natureIn narrow (now (c .before .before .before .before .before .before .args .right))) ≡ c .nature-of2 .result
+right-is c = number-of (now (c .before .before .before .before .before .before .args .right)) (c .before .before .before .before .before .before .pre .1) ∙ sym (c .nature-of2 .ensures)
 
 returns : tie.Need-returns
 returns c =
     let b = c .before .before .before .before .before .before .before .before in
     let a = b .args in
     let left = now (a .left) in
-    let e = absent-left (narrow .categoryLimit) (a .c) (a .data-type) (a .columns) (natureIn narrow left) (natureIn narrow (now (a .right))) (number-of left (b .pre .0) ∙ c .before .if1 .taken) in
+    let e = absent-left (narrow .categoryLimit) (a .c) (a .data-type) (a .columns) (natureIn narrow left) (natureIn narrow (now (a .right))) (left-is (c .before .before) ∙ c .before .if1 .taken) in
     (c .nothing-stated .ensures .0 (now (a .first)) (now (a .second)) ∙ ap (λ (g : Result Nature). inWriting narrow g) (sym e), c .nothing-stated .ensures .1)
 
 returns-2 : tie.Need-returns-2
@@ -38,7 +46,7 @@ returns-2 c =
     let b = c .before .before .before .before .before .before .before .before .before in
     let a = b .args in
     let right = now (a .right) in
-    let e = absent-right (narrow .categoryLimit) (a .c) (a .data-type) (a .columns) (natureIn narrow (now (a .left))) (natureIn narrow right) (number-of right (b .pre .1) ∙ c .before .if2 .taken) in
+    let e = absent-right (narrow .categoryLimit) (a .c) (a .data-type) (a .columns) (natureIn narrow (now (a .left))) (natureIn narrow right) (right-is (c .before .before .before) ∙ c .before .if2 .taken) in
     (c .nothing-stated2 .ensures .0 (now (a .first)) (now (a .second)) ∙ ap (λ (g : Result Nature). inWriting narrow g) (sym e), c .nothing-stated2 .ensures .1)
 
 returns-3 : tie.Need-returns-3
@@ -47,8 +55,8 @@ returns-3 c =
     let a = b .args in
     let left = now (a .left) in
     let right = now (a .right) in
-    let p = number-of left (b .pre .0) in
-    let q = number-of right (b .pre .1) in
+    let p = left-is (c .before .before .before .before .before .before .before) in
+    let q = right-is (c .before .before .before .before .before .before .before) in
     let x = ap isRangeNature p ∙ sym (c .before .before .before .before .is-range .ensures) ∙ c .before .before .before .if3 .taken in
     let y = ap isRangeNature q ∙ sym (c .before .before .is-range2 .ensures) ∙ c .before .if4 .taken in
     let e = unequal-ranges (narrow .categoryLimit) (a .c) (a .data-type) (a .columns) (natureIn narrow left) (natureIn narrow right) x y (λ same. c .if5 .taken (sym p ∙ same ∙ q)) in
@@ -57,14 +65,15 @@ returns-3 c =
 range-pair-requires : tie.Need-range-pair-requires
 range-pair-requires c κs =
     let b = c .before .before .before .before .before .before .before .before .before .before .before .before .before .before .before in
+    let k = c .before .before .before .before .before .before .before .before .before in
     let ready = b .pre .2 in
     let within = ready .within in
     let first = ready .first-room in
     let second = ready .second-room in (
       b .pre .0 .sizes,
-      sym (c .before .before .before .before .before .before .is-range .ensures) ∙ c .before .before .before .before .before .if3 .taken,
+      rw (k .before .nature-of .ensures) at (sym (c .before .before .before .before .before .before .is-range .ensures) ∙ c .before .before .before .before .before .if3 .taken),
       b .pre .1 .sizes,
-      sym (c .before .before .before .before .is-range2 .ensures) ∙ c .before .before .before .if4 .taken,
+      rw (k .nature-of2 .ensures) at (sym (c .before .before .before .before .is-range2 .ensures) ∙ c .before .before .before .if4 .taken),
       within,
       omega arith,
       omega arith,
@@ -75,8 +84,11 @@ returns-4 c =
     let d = c .before .before .before .before in
     let b = d .before .before .before .before .before .before .before .before .before .before .before .before .before .before .before .before in
     let a = b .args in
-    let e = both-ranges (narrow .categoryLimit) (a .c) (a .data-type) (a .columns) (now (a .left)) (now (a .right)) (sym (d .before .before .before .before .before .before .before .is-range .ensures) ∙ d .before .before .before .before .before .before .if3 .taken) (d .before .before .before .if5 .left) in
-    (d .range-pair .ensures .0 ∙ ap (λ (g : Result Nature). inWriting narrow g) (sym e), d .range-pair .ensures .1)
+    let k = d .before .before .before .before .before .before .before .before .before .before in
+    let x = k .before .nature-of .ensures in
+    let range = rw x at (sym (d .before .before .before .before .before .before .before .is-range .ensures) ∙ d .before .before .before .before .before .before .if3 .taken) in
+    let e = both-ranges (narrow .categoryLimit) (a .c) (a .data-type) (a .columns) (now (a .left)) (now (a .right)) range (sym x ∙ d .before .before .before .if5 .left ∙ k .nature-of2 .ensures) in
+    ((rw x at (d .range-pair .ensures .0)) ∙ ap (λ (g : Result Nature). inWriting narrow g) (sym e), d .range-pair .ensures .1)
 
 returns-5 : tie.Need-returns-5
 returns-5 c =
@@ -84,8 +96,8 @@ returns-5 c =
     let a = b .args in
     let left = now (a .left) in
     let right = now (a .right) in
-    let x = ap isRangeNature (number-of left (b .pre .0)) ∙ sym (c .before .before .before .before .is-range .ensures) ∙ c .before .before .before .if3 .taken in
-    let y = ap isRangeNature (number-of right (b .pre .1)) ∙ sym (c .before .before .is-range2 .ensures) ∙ c .before .if4 .left in
+    let x = ap isRangeNature (left-is (c .before .before .before .before .before .before .before)) ∙ sym (c .before .before .before .before .is-range .ensures) ∙ c .before .before .before .if3 .taken in
+    let y = ap isRangeNature (right-is (c .before .before .before .before .before .before .before)) ∙ sym (c .before .before .is-range2 .ensures) ∙ c .before .if4 .left in
     let e = range-with-lists (narrow .categoryLimit) (a .c) (a .data-type) (a .columns) (natureIn narrow left) (natureIn narrow right) x y in
     (c .nothing-stated3 .ensures .0 (now (a .first)) (now (a .second)) ∙ ap (λ (g : Result Nature). inWriting narrow g) (sym e), c .nothing-stated3 .ensures .1)
 
@@ -95,8 +107,8 @@ returns-6 c =
     let a = b .args in
     let left = now (a .left) in
     let right = now (a .right) in
-    let x = ap isRangeNature (number-of left (b .pre .0)) ∙ sym (c .before .before .before .before .is-range .ensures) ∙ c .before .before .before .if3 .left in
-    let y = ap isRangeNature (number-of right (b .pre .1)) ∙ sym (c .before .before .is-range3 .ensures) ∙ c .before .if6 .taken in
+    let x = ap isRangeNature (left-is (c .before .before .before .before .before .before .before)) ∙ sym (c .before .before .before .before .is-range .ensures) ∙ c .before .before .before .if3 .left in
+    let y = ap isRangeNature (right-is (c .before .before .before .before .before .before .before)) ∙ sym (c .before .before .is-range3 .ensures) ∙ c .before .if6 .taken in
     let e = lists-with-range (narrow .categoryLimit) (a .c) (a .data-type) (a .columns) (natureIn narrow left) (natureIn narrow right) x y in
     (c .nothing-stated4 .ensures .0 (now (a .first)) (now (a .second)) ∙ ap (λ (g : Result Nature). inWriting narrow g) (sym e), c .nothing-stated4 .ensures .1)
 
@@ -104,15 +116,15 @@ returns-6 c =
 left-lists : (c : tie.Else6) → Lists (now (c .before .before .before .before .before .before .before .before .before .before .before .before .args .left))
 left-lists c = record {
   read = c .before .before .before .before .before .before .before .before .before .before .before .before .pre .0;
-  present = ne-eqb (byteAt narrow natureAt (now (c .before .before .before .before .before .before .before .before .before .before .before .before .args .left))) 0 (c .before .before .before .before .before .if1 .left);
-  no-range = sym (c .before .before .before .is-range .ensures) ∙ c .before .before .if3 .left;
+  present = rw (c .before .before .before .before .before .before .before .nature-of .ensures) at (ne-eqb (c .before .before .before .before .before .before .before .nature-of .result) 0 (c .before .before .before .before .before .if1 .left));
+  no-range = rw (c .before .before .before .before .before .before .before .nature-of .ensures) at (sym (c .before .before .before .is-range .ensures) ∙ c .before .before .if3 .left);
 }
 
 right-lists : (c : tie.Else6) → Lists (now (c .before .before .before .before .before .before .before .before .before .before .before .before .args .right))
 right-lists c = record {
   read = c .before .before .before .before .before .before .before .before .before .before .before .before .pre .1;
-  present = ne-eqb (byteAt narrow natureAt (now (c .before .before .before .before .before .before .before .before .before .before .before .before .args .right))) 0 (c .before .before .before .before .if2 .left);
-  no-range = sym (c .before .is-range3 .ensures) ∙ c .if6 .left;
+  present = rw (c .before .before .before .before .before .before .nature-of2 .ensures) at (ne-eqb (c .before .before .before .before .before .before .nature-of2 .result) 0 (c .before .before .before .before .if2 .left));
+  no-range = rw (c .before .before .before .before .before .before .nature-of2 .ensures) at (sym (c .before .is-range3 .ensures) ∙ c .if6 .left);
 }
 
 propagate-binary-categorical-nature-requires : tie.Need-propagate-binary-categorical-nature-requires
@@ -129,22 +141,20 @@ returns-7 c =
     let a = b .args in
     let left = now (a .left) in
     let right = now (a .right) in
-    let l = left-lists w in
-    let r = right-lists w in
-    let p = number-of left (l .read) in
-    let q = number-of right (r .read) in
+    let p = left-is (w .before .before .before .before .before .before) in
+    let q = right-is (w .before .before .before .before .before .before) in
     let e =
-    both-lists (narrow .categoryLimit) (a .c) (a .data-type) (a .columns) (natureIn narrow left) (natureIn narrow right) (λ z. w .before .before .before .before .before .if1 .left (sym p ∙ z)) (ap isRangeNature p ∙ l .no-range)
+    both-lists (narrow .categoryLimit) (a .c) (a .data-type) (a .columns) (natureIn narrow left) (natureIn narrow right) (λ z. w .before .before .before .before .before .if1 .left (sym p ∙ z)) (ap isRangeNature p ∙ sym (w .before .before .before .is-range .ensures) ∙ w .before .before .if3 .left)
     (λ z. w .before .before .before .before .if2 .left (sym q ∙ z))
-    (ap isRangeNature q ∙ r .no-range) in
+    (ap isRangeNature q ∙ sym (w .before .is-range3 .ensures) ∙ w .if6 .left) in
     (d .propagate-binary-categorical-nature .ensures .0 ∙ ap (λ (g : Result Nature). inWriting narrow g) (sym e), d .propagate-binary-categorical-nature .ensures .1)
 
 pub propagate-binary-nature-spec : {M : Type 1} → statement M
 propagate-binary-nature-spec =
     tie.close
     (tie.spec
-    shared-slice-read-x
-    shared-slice-read-y
+    nature-of-requires
+    nature-of-requires-2
     (λ c κs. search needs)
     returns
     (λ c κs. search needs)
