@@ -80,14 +80,14 @@ fn plain_bits(v: OptionU64) -> u64
 
 // ---- the parts of a sheet: each appends at `at`, and returns the place behind what it wrote
 
-// The `n` bytes of `src` that stand at `from`.
+// The `n` bytes of `src` that stand at `from`: of a sheet, or of an array that goes into one.
 pub fn put_bytes(buf: &mut [u8], at: usize, src: &[u8], from: usize, n: usize) -> usize
     requires { ⌜ (at + n ≤ length (now buf)) × (from + n ≤ length (now src)) ⌝ }
     ensures { λ r. ⌜ Wrote (now (buf .entry)) at n (take n (drop from (now (src .entry)))) (now (buf .exit)) r ⌝ }
 {
     let mut i = 0;
     while i < n {
-        buf[at + i] = src[from + i];
+        buf[at + i] = base::byte_at(src, from + i);
         i += 1;
     }
     at + n
@@ -188,14 +188,15 @@ pub fn put_sheet(
     requires { ⌜ Room p (now first) (now second) (now source) (now buf) ⌝ }
     ensures { λ r. ⌜ Wrote (now (buf .entry)) 0 (80 + 13 * groupCount narrow (now (source .entry)) + p .first + p .second) (sheetFrom narrow (headFields head) node (groupsIn narrow (now (source .entry))) (partsIn p (now (first .entry)) (now (second .entry)))) (now (buf .exit)) r ⌝ }
 {
-    let groups = bytes::u16_at(source, form::GROUPS_AT);
-    let end = put_front(buf, groups, p, head, node);
+    let sizes = base::sizes_at(source);
+    let groups = sizes.groups;
+    let end = put_front(buf, groups as u16, p, head, node);
     let end = put_bytes(
         buf,
         end,
         source,
         form::ARRAYS_AT,
-        form::GROUP_WIDTH * (groups as usize),
+        form::GROUP_WIDTH * groups,
     );
     let end = put_bytes(buf, end, first, 0, p.first);
     put_bytes(buf, end, second, 0, p.second)

@@ -17,19 +17,20 @@ abbrev μ-loop : tie.MeasureT-loop
 
 loop-holds : tie.Need-loop-holds Inv-loop μ-loop
 loop-holds c =
-    let a = c .args in
+    let a = c .before .before .args in
     (omega arith, refl, copy-start (now (a .buf)) (a .at) (drop (a .from) (now (a .src))))
 
 loop-again : tie.Need-loop-again Inv-loop μ-loop
 loop-again c =
     let l = c .before .before .loop in
-    let a = c .before .before .before .args in
+    let a = c .before .before .before .before .before .args in
+    rw (c .byte-at .ensures)
     (omega arith, length-set (l .buf) (a .at + l .i) (getD (now (a .src)) (a .from + l .i) 0) ∙ l .inv .1, copy-more (now (a .src)) (a .from) (l .inv .2) (omega arith) (omega arith))
 
 returns : tie.Need-returns Inv-loop μ-loop
 returns c =
     let l = c .before .loop in
-    let a = c .before .before .args in
+    let a = c .before .before .before .before .args in
     let all : l .i ≡ a .n = omega arith in
     rw all at (l .inv .2)
 
@@ -41,7 +42,7 @@ put-bytes-spec =
     μ-loop
     loop-holds
     (λ c. omega arith)
-    (λ c. omega arith)
+    (λ c κs. omega arith)
     (λ c. omega arith)
     (λ c. omega arith)
     (λ c. omega arith)

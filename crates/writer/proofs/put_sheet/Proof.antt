@@ -19,8 +19,14 @@ use Rattle.writer.proofs.Sheets.{sheet-parts}
 use Rattle.writer.proofs.put_sheet.Statement.{statement}
 use Rattle.writer.proofs.put_sheet.Tie as tie
 
-u16-at-requires : tie.Need-u16-at-requires
-u16-at-requires c κs = let start = c .before .before .before .before in let h = long-enough (passed narrow (now (start .args .source)) (start .pre .sized)) in omega arith
+sizes-at-requires : tie.Need-sizes-at-requires
+sizes-at-requires c κs = let start = c .before .before .before .before in long-enough (passed narrow (now (start .args .source)) (start .pre .sized))
+
+cast-put-front : tie.Need-cast-put-front
+cast-put-front c =
+    let start = c .before .before .before .before .before .before in
+    let h = passed narrow (now (start .args .source)) (start .pre .sized) .groupsWithin in
+    search needs
 
 put-bytes-requires : tie.Need-put-bytes-requires
 put-bytes-requires c κs =
@@ -38,15 +44,15 @@ returns c =
     let start = read .before .before .before .before .before in
     let a = start .args in
     let source = now (a .source) in
-    let count = read .u16-at .ensures in
+    let count = read .sizes-at .ensures .groups in
     let copied = groups-copied source (λ i. read .before .shared-slice-known3 .given i .fits) (groups-fit (passed narrow source (start .pre .sized)) .room) in
     let back = toZ-ofZ {w = w64} {z = a .node} (start .fits .node) in
     let put =
     and-then (and-then (and-then (front .put-front .ensures) (area .put-bytes .ensures)) (first .put-bytes2 .ensures)) (last .put-bytes3 .ensures) in
     same-bytes (same-size put (omega arith))
     (rw back
-    (sheet-parts (headFields (a .head)) (a .node) (groupsIn narrow source) (partsIn (a .p) (now (a .first)) (now (a .second))) (read .u16-at .result)
-    (take (13 * read .u16-at .result) (drop 80 source))
+    (sheet-parts (headFields (a .head)) (a .node) (groupsIn narrow source) (partsIn (a .p) (now (a .first)) (now (a .second))) (read .sizes-at .result .groups)
+    (take (13 * read .sizes-at .result .groups) (drop 80 source))
     (groups-length source ∙ sym count)
     (copied ∙ ap (λ (k : ℕ). take (13 * k) (drop 80 source)) (sym count))))
 
@@ -54,9 +60,9 @@ pub put-sheet-spec : {M : Type 1} → statement M
 put-sheet-spec =
     tie.close
     (tie.spec
-    u16-at-requires
+    sizes-at-requires
+    cast-put-front
     (λ c κs. search needs)
-    (λ c. search needs)
     (λ c. search needs)
     put-bytes-requires
     (λ c κs. search needs)
