@@ -14,7 +14,11 @@ pub fn front(s: &[u8], n: usize) -> &[u8]
 
 // The byte at a place; past the end, 0.
 fn byte_at(s: &[u8], at: usize) -> u8 {
-    if at < s.len() { s[at] } else { 0 }
+    if at < s.len() {
+        base::byte_at(s, at)
+    } else {
+        0
+    }
 }
 
 // A count; of the examples' it is all in the first byte.
@@ -39,14 +43,14 @@ fn number_at(s: &[u8], at: usize) {
         missing();
         return;
     }
-    words::signed(bytes::u64_at(s, at));
+    words::signed(base::u64_at(s, at));
 }
 
 // The number at a place, if its mark says that it is present.
 fn marked(s: &[u8], mark: usize, at: usize) {
     if s.len() <= mark {
         missing();
-    } else if s[mark] == 0 {
+    } else if base::byte_at(s, mark) == 0 {
         io::write_all(STDOUT_FILENO, b"absent");
     } else {
         number_at(s, at);
