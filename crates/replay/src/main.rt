@@ -1,33 +1,49 @@
-// Replays the stored list of single calls, which its first argument names, through the gate: every answer and every byte of each output is compared.
-mod single; // a line of the list, and its call
+// Replays the two stored lists through the gate, that of single calls, which the first argument names, and that of plans, which the second names:
+// every answer and every byte of each lent buffer is compared.
+mod answer; // what the gate answers, held against the list
+mod single; // a line of the list of calls, and its call
 mod tally; // what lines come to, and their counts
+mod walk; // a line of the list of plans, and its plan call
 
 use libc::STDOUT_FILENO;
 use lines::Line;
 use lines::Window;
 use tally::Outcome;
+use tally::Stored;
 use tally::Tally;
 
+fn judged(list: Stored, line: &[u8]) -> Outcome {
+    if lines::is_comment(line) {
+        return Outcome::Comment;
+    }
+    match list {
+        Stored::Calls => single::judged(line),
+        Stored::Plans => walk::judged(line),
+    }
+}
+
 // Says which line could not be read, or what the gate answered where it differs.
-fn report(line: u64, o: Outcome) {
+fn report(list: Stored, line: u64, o: Outcome) {
     match o {
         Outcome::Comment => {}
         Outcome::Agrees(_) => {}
         Outcome::Unread => {
+            tally::name(list);
             io::write_all(STDOUT_FILENO, b"line ");
             words::say(line, b" cannot be read\n");
         }
         Outcome::Differs(_, reply) => {
+            tally::name(list);
             io::write_all(STDOUT_FILENO, b"line ");
             words::say(line, b" differs: code ");
-            words::say(single::code_of(reply), b", length ");
-            words::say(single::length_of(reply), b"\n");
+            words::say(answer::code_of(reply), b", value ");
+            words::say(answer::value_of(reply), b"\n");
         }
     }
 }
 
 // A proved loop has to end, and nothing says that an input does: it counts its turns down, from a number that no run uses up.
-fn replay(fd: i32, buf: &mut [u8]) -> Tally {
+fn replay(list: Stored, fd: i32, buf: &mut [u8]) -> Tally {
     let mut tally = Tally::new();
     let mut window = Window { at: 0, end: 0 };
     let mut turns = u64::MAX;
@@ -36,25 +52,31 @@ fn replay(fd: i32, buf: &mut [u8]) -> Tally {
         let Line::Is { from, to, rest } = line else {
             return tally;
         };
-        let outcome = single::judged(&buf[from..to]);
+        let outcome = judged(list, &buf[from..to]);
         tally = tally.counted(outcome);
-        report(tally.lines, outcome);
+        report(list, tally.lines, outcome);
         window = rest;
         turns -= 1;
     }
     tally
 }
 
-fn main() {
+// Replays the list that argument k names.
+fn run(list: Stored, k: usize) {
     let mut path = io::buffer();
-    let length = os::arg(1, &mut path);
+    let length = os::arg(k, &mut path);
     let fd = os::open_read(&path[..length]);
     if fd < 0 {
         os::fail(&path[..length]);
         return;
     }
     let mut buf = io::large_buffer();
-    let counts = replay(fd, &mut buf);
+    let counts = replay(list, fd, &mut buf);
     libc::close(fd);
-    counts.print();
+    counts.print(list);
+}
+
+fn main() {
+    run(Stored::Calls, 1);
+    run(Stored::Plans, 2);
 }

@@ -1,20 +1,17 @@
 // A line `component node left right out_len code result mark`, and the call that it asks for.
 ghost use mathlib.Core.Path.{_≡_};
-ghost use mathlib.Core.Bool.{true};
-ghost use Prim.Native.Nat.{_/_, _%_, _^_};
+ghost use Rattle.base.specs.Form.{narrow};
+ghost use Rattle.transforms.specs.Single.{single, outcome};
+ghost use Rattle.replay.specs.Answers.{Confirms};
+use crate::answer;
 use crate::tally::Outcome;
 use crate::tally::Said;
+use crate::tally::Told;
 use lines::Held;
 use lines::Number;
 
-// The most bytes of a sheet or an output that a line may ask for; the list's largest output has 2,000.
+// The most bytes of an operand that a line may have; the list's longest has 1,284.
 const ROOM: usize = 2048;
-
-// What the output holds before a call.
-const FILL: u8 = 165;
-
-// What the length in a reply is multiplied by.
-const LENGTH_UNIT: u64 = 4294967296;
 
 const FIELDS: usize = 8;
 
@@ -29,18 +26,6 @@ struct Call {
 enum Parsed {
     Is(Call),
     Not,
-}
-
-pub fn code_of(reply: u64) -> u64
-    ensures { λ r. ⌜ r ≡ reply % 2 ^ 32 ⌝ }
-{
-    reply % LENGTH_UNIT
-}
-
-pub fn length_of(reply: u64) -> u64
-    ensures { λ r. ⌜ r ≡ reply / 2 ^ 32 ⌝ }
-{
-    reply / LENGTH_UNIT
 }
 
 fn is_mark(s: &[u8]) -> bool {
@@ -78,51 +63,33 @@ fn call_of(line: &[u8]) -> Parsed {
     })
 }
 
-// Whether the gate's reply and its output are what the list says.
-fn agrees(reply: u64, out: &[u8], code: u32, len: usize, expected: &[u8]) -> bool
-    ensures { λ r. ⌜ (r ≡ true → (reply % 2 ^ 32 ≡ code) × (reply / 2 ^ 32 ≡ len) × (now (out .entry) ≡ now (expected .entry))) ⌝ }
-{
-    if code_of(reply) != code as u64 {
-        return false;
-    }
-    if length_of(reply) != len as u64 {
-        return false;
-    }
-    check::same(out, expected)
-}
-
-// Makes the call, and compares. Result and output stand in equally filled buffers, so that what follows the result has to be as it was.
+// Makes the call, and compares. Where they agree, the list has what the definition of the single call gives.
 fn called(
     call: Call,
     left: &[u8],
     right: &[u8],
     len: usize,
-    expected: &[u8],
     out: &mut [u8],
-) -> Outcome {
-    let n = call.out_len;
-    if out.len() < n {
-        return Outcome::Unread;
-    }
-    let reply = gate::propagate_property(call.component, call.node, left, right, &mut out[..n]);
+    expected: &[u8],
+) -> Outcome
+    ensures { λ r. ⌜ Confirms r (single narrow (call .component) (call .node) (now (left .entry)) (now (right .entry)) (now (out .entry))) (outcome (call .code) len (now (expected .entry))) ⌝ }
+{
+    let reply = gate::propagate_property(call.component, call.node, left, right, out);
     let said = Said {
         component: call.component,
-        code: call.code,
+        told: Told::of_call(call.code),
     };
-    if agrees(reply, out, call.code, len, expected) {
-        return Outcome::Agrees(said);
-    }
-    Outcome::Differs(said, reply)
+    answer::compared(said, reply, out, call.code, len as u64, expected)
 }
 
-// Reads the operands and the result into the first three buffers.
+// Reads the operands and the result. Result and output stand in equally filled buffers, so that what follows the result has to be as it was.
 fn compared(
     line: &[u8],
     call: Call,
     left: &mut [u8],
     right: &mut [u8],
-    expected: &mut [u8],
     out: &mut [u8],
+    expected: &mut [u8],
 ) -> Outcome {
     let a = lines::bytes_of(lines::field(line, 2), left);
     let Held::Len(l) = a else {
@@ -136,21 +103,29 @@ fn compared(
     let Held::Len(len) = c else {
         return Outcome::Unread;
     };
-    called(call, &left[..l], &right[..r], len, expected, out)
+    called(call, &left[..l], &right[..r], len, out, expected)
 }
 
 fn replayed(line: &[u8], call: Call) -> Outcome {
+    let n = call.out_len;
+    if answer::ROOM < n {
+        return Outcome::Unread;
+    }
     let mut left = [0u8; ROOM];
     let mut right = [0u8; ROOM];
-    let mut expected = [FILL; ROOM];
-    let mut out = [FILL; ROOM];
-    compared(line, call, &mut left, &mut right, &mut expected, &mut out)
+    let mut out = answer::filled();
+    let mut expected = answer::filled();
+    compared(
+        line,
+        call,
+        &mut left,
+        &mut right,
+        &mut out[..n],
+        &mut expected[..n],
+    )
 }
 
 pub fn judged(line: &[u8]) -> Outcome {
-    if lines::is_comment(line) {
-        return Outcome::Comment;
-    }
     if lines::fields(line) != FIELDS {
         return Outcome::Unread;
     }

@@ -1,22 +1,61 @@
 // What the lines of a list come to, and how many come to what.
 ghost use Prim.Native.Nat.{_<_, _≤_};
+use base::refusals;
 use libc::STDOUT_FILENO;
 
-// 27: the output is too short.
-const SHORT: u32 = 27;
-
-// The components are 1 to 9; 0 stands for every other number.
+// The components are 1 to 9; 0 stands for every other number, and for a plan.
 const PLACES: usize = 10;
 
-// What a list says of a call: its component and the answer's code.
+pub enum Stored {
+    Calls,
+    Plans,
+}
+
+// What a list says of a call or a plan.
+pub enum Told {
+    Accepted,
+    // At a step, where it is a plan's.
+    Refused,
+    AtLeaf,
+    Malformed,
+    Short,
+}
+
+impl Told {
+    pub fn of_call(code: u32) -> Self {
+        match code {
+            0 => Told::Accepted,
+            refusals::NO_ROOM => Told::Short,
+            _ => Told::Refused,
+        }
+    }
+
+    // The nodes before `leaves` are the leaves.
+    pub fn of_plan(code: u32, node: u32, leaves: usize) -> Self {
+        match code {
+            0 => Told::Accepted,
+            refusals::MALFORMED => Told::Malformed,
+            refusals::NO_ROOM => Told::Short,
+            _ => {
+                if (node as usize) < leaves {
+                    Told::AtLeaf
+                } else {
+                    Told::Refused
+                }
+            }
+        }
+    }
+}
+
+// The component, 0 for a plan, and what the list says.
 pub struct Said {
     pub component: u32,
-    pub code: u32,
+    pub told: Told,
 }
 
 pub enum Outcome {
     Comment,
-    // No call in the list's form.
+    // Not in the list's form.
     Unread,
     Agrees(Said),
     // And the gate's reply.
@@ -29,6 +68,8 @@ pub struct Tally {
     // By what the list says.
     pub accepted: u64,
     pub refused: u64,
+    pub at_leaf: u64,
+    pub malformed: u64,
     pub short: u64,
     // By component.
     pub agree: [u64; PLACES],
@@ -59,22 +100,22 @@ impl Tally {
             unread: 0,
             accepted: 0,
             refused: 0,
+            at_leaf: 0,
+            malformed: 0,
             short: 0,
             agree: [0; PLACES],
             differ: [0; PLACES],
         }
     }
 
-    fn with_code(mut self, code: u32) -> Self {
-        if code == 0 {
-            self.accepted = more(self.accepted);
-            return self;
+    fn with_told(mut self, told: Told) -> Self {
+        match told {
+            Told::Accepted => self.accepted = more(self.accepted),
+            Told::Refused => self.refused = more(self.refused),
+            Told::AtLeaf => self.at_leaf = more(self.at_leaf),
+            Told::Malformed => self.malformed = more(self.malformed),
+            Told::Short => self.short = more(self.short),
         }
-        if code == SHORT {
-            self.short = more(self.short);
-            return self;
-        }
-        self.refused = more(self.refused);
         self
     }
 
@@ -90,29 +131,57 @@ impl Tally {
             Outcome::Agrees(said) => {
                 let k = place(said.component);
                 self.agree[k] = more(self.agree[k]);
-                self.with_code(said.code)
+                let told = said.told;
+                self.with_told(told)
             }
             Outcome::Differs(said, _) => {
                 let k = place(said.component);
                 self.differ[k] = more(self.differ[k]);
-                self.with_code(said.code)
+                let told = said.told;
+                self.with_told(told)
             }
         }
     }
 
-    pub fn print(self) {
+    pub fn print(self, list: Stored) {
         let agree = self.agree;
         let differ = self.differ;
-        io::write_all(STDOUT_FILENO, b"single calls: ");
+        name(list);
         words::say(sum(&agree), b" agree, ");
         words::say(sum(&differ), b" differ\n");
         words::say(self.accepted, b" accepted, ");
-        words::say(self.refused, b" refused, ");
-        words::say(self.short, b" outputs too short; ");
+        self.print_refused(list);
         words::say(self.unread, b" of ");
         words::say(self.lines, b" lines cannot be read\n");
-        print_places(&agree, &differ);
+        match list {
+            Stored::Calls => print_places(&agree, &differ),
+            Stored::Plans => {}
+        }
     }
+
+    fn print_refused(self, list: Stored) {
+        match list {
+            Stored::Calls => {
+                words::say(self.refused, b" refused, ");
+                words::say(self.short, b" outputs too short; ");
+            }
+            Stored::Plans => {
+                words::say(self.at_leaf, b" refused at a leaf, ");
+                words::say(self.refused, b" refused at a step, ");
+                words::say(self.malformed, b" malformed, ");
+                words::say(self.short, b" work buffers too short; ");
+            }
+        }
+    }
+}
+
+// A list's name, which begins what is said of it.
+pub fn name(list: Stored) {
+    match list {
+        Stored::Calls => io::write_all(STDOUT_FILENO, b"single calls: "),
+        Stored::Plans => io::write_all(STDOUT_FILENO, b"plans: "),
+    }
+    ;
 }
 
 fn sum(counts: &[u64; PLACES]) -> u64 {

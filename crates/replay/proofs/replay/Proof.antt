@@ -10,10 +10,10 @@ use Rattle.replay.proofs.replay.Statement.{statement}
 use Rattle.replay.proofs.replay.Tie as tie
 
 abbrev Inv-loop : tie.InvT-loop
-Inv-loop fd buf₀ tally₀ window₀ turns₀ buf tally window turns = Open window (length buf) × (length buf ≡ length buf₀)
+Inv-loop list fd buf₀ tally₀ window₀ turns₀ buf tally window turns = Open window (length buf) × (length buf ≡ length buf₀)
 
 abbrev μ-loop : tie.MeasureT-loop
-μ-loop fd buf₀ tally₀ window₀ turns₀ buf tally window turns = turns
+μ-loop list fd buf₀ tally₀ window₀ turns₀ buf tally window turns = turns
 
 new-requires : tie.Need-new-requires Inv-loop μ-loop
 new-requires c κs = search needs

@@ -13,7 +13,7 @@ use borrow.Rule.Slice.PartMut.{putMid}
 use Rattle.plan.proofs.Parts.{part-lent, part-back}
 use Rattle.lines.specs.Fields.{before, behind, Found}
 use Rattle.lines.proofs.Splits.{found-before, found-behind}
-use Rattle.replay_plans.specs.Sheets.{withByte, split, texts}
+use Rattle.replay.specs.Sheets.{withByte, split, texts}
 
 module _ (b : ℕ) where
   -- the first text, and the rest where it is not the whole

@@ -1,11 +1,11 @@
--- `replay_plans::walk::replayed` is safe and ends: the length that a line asks for is within the buffers.
+-- `replay::walk::replayed` is safe and ends: the length that a line asks for is within the buffers.
 -- Assumes nothing.
 use mathlib.Core.Path.{sym}
 use lib.Seq.{length-take-le}
 use native.Mathlib.Omega.{arith}
 use borrow.Author.Needs.{needs}
-use Rattle.replay_plans.proofs.walk.replayed.Statement.{statement}
-use Rattle.replay_plans.proofs.walk.replayed.Tie as tie
+use Rattle.replay.proofs.walk.replayed.Statement.{statement}
+use Rattle.replay.proofs.walk.replayed.Tie as tie
 
 returns : tie.Need-returns
 returns c = search needs

@@ -1,18 +1,18 @@
--- `replay_plans::walk::put_sheets` meets its contract. The loop's invariant: laying the sheets that are left, from slot k on, lays all. The measure is the number of slots that are left.
+-- `replay::walk::put_sheets` meets its contract. The loop's invariant: laying the sheets that are left, from slot k on, lays all. The measure is the number of slots that are left.
 -- Assumes nothing.
 use Prim.Native.Nat.{ℕ, _+_, _-_, _≤_}
 use mathlib.Core.Path.{_≡_, refl, ap, _∙_}
 use native.Mathlib.Nat.{add-zero}
 use denote.Ref.{now}
-use Rattle.replay_plans.proofs.Texts.{not-both, split-last, split-more, texts-none, texts-some}
+use Rattle.replay.proofs.Texts.{not-both, split-last, split-more, texts-none, texts-some}
 use mathlib.Core.List.{List}
 use lib.ListN.{length, drop}
 use borrow.Author.Needs.{needs}
 use borrow.Author.Tests.{not-false}
 use native.Mathlib.Omega.{arith}
-use Rattle.replay_plans.specs.Sheets.{split, Laid}
-use Rattle.replay_plans.proofs.walk.put_sheets.Statement.{statement}
-use Rattle.replay_plans.proofs.walk.put_sheets.Tie as tie
+use Rattle.replay.specs.Sheets.{split, Laid}
+use Rattle.replay.proofs.walk.put_sheets.Statement.{statement}
+use Rattle.replay.proofs.walk.put_sheets.Tie as tie
 
 abbrev Inv-loop : tie.InvT-loop
 Inv-loop s slot buf₀ k₀ at₀ buf k at =

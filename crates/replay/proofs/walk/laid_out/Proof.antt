@@ -1,13 +1,13 @@
--- `replay_plans::walk::laid_out` meets its contract: what each of the three calls of `put_sheets` lays.
+-- `replay::walk::laid_out` meets its contract: what each of the three calls of `put_sheets` lays.
 -- Assumes nothing.
 use mathlib.Core.Path.{sym, subst, _∙_}
 use native.Mathlib.Nat.{zero-add}
 use denote.Ref.{now}
 use Rattle.lines.specs.declared.Held.{Held}
-use Rattle.replay_plans.specs.Sheets.{Lays}
+use Rattle.replay.specs.Sheets.{Lays}
 use borrow.Author.Needs.{needs}
-use Rattle.replay_plans.proofs.walk.laid_out.Statement.{statement}
-use Rattle.replay_plans.proofs.walk.laid_out.Tie as tie
+use Rattle.replay.proofs.walk.laid_out.Statement.{statement}
+use Rattle.replay.proofs.walk.laid_out.Tie as tie
 
 field-requires : tie.Need-field-requires
 field-requires c κs = search needs

@@ -1,11 +1,16 @@
--- `replay_plans::walk::agrees` meets its contract: the last answer is that of `same`, after both halves of the reply.
+-- `replay::answer::agrees` meets its contract: the last answer is that of `same`, after both halves of the reply.
 -- Assumes nothing.
-use mathlib.Core.Path.{_≡_, sym, _∙_}
+use mathlib.Core.Path.{_≡_}
 use Prim.Native.Nat.{ℕ}
+use mathlib.Core.List.{List}
+use Rattle.transforms.specs.Single.{outcome}
 use borrow.Author.Needs.{needs}
 use native.Mathlib.Omega.{arith}
-use Rattle.replay_plans.proofs.walk.agrees.Statement.{statement}
-use Rattle.replay_plans.proofs.walk.agrees.Tie as tie
+use Rattle.replay.proofs.answer.agrees.Statement.{statement}
+use Rattle.replay.proofs.answer.agrees.Tie as tie
+
+alike : {k k′ v v′ : ℕ} {b b′ : List ℕ} → k ≡ k′ → v ≡ v′ → b ≡ b′ → outcome k v b ≡ outcome k′ v′ b′
+alike e f g = rw (e, f, g)
 
 code-of-requires : tie.Need-code-of-requires
 code-of-requires c κs = search needs
@@ -23,7 +28,7 @@ same-requires : tie.Need-same-requires
 same-requires c κs = search needs
 
 returns-3 : tie.Need-returns-3
-returns-3 c = λ e. (omega (arith, c .before .before .before .before .code-of .ensures), omega (arith, c .before .before .value-of .ensures), c .same .ensures .0 e)
+returns-3 c = λ e. alike (omega (arith, c .before .before .before .before .code-of .ensures)) (omega (arith, c .before .before .value-of .ensures)) (c .same .ensures .0 e)
 
 pub agrees-spec : {M : Type 1} → statement M
 agrees-spec =

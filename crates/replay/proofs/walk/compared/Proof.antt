@@ -1,4 +1,4 @@
--- `replay_plans::walk::compared` is safe and ends: what `bytes_of` put is within its buffer.
+-- `replay::walk::compared` is safe and ends: what `bytes_of` put is within its buffer.
 -- Assumes nothing.
 use mathlib.Core.Path.{sym, subst}
 use lib.ListN.{length}
@@ -6,8 +6,8 @@ use lib.Seq.{length-take-le}
 use Rattle.lines.specs.declared.Held.{Held}
 use Rattle.lines.specs.Bytes.{Within}
 use borrow.Author.Needs.{needs}
-use Rattle.replay_plans.proofs.walk.compared.Statement.{statement}
-use Rattle.replay_plans.proofs.walk.compared.Tie as tie
+use Rattle.replay.proofs.walk.compared.Statement.{statement}
+use Rattle.replay.proofs.walk.compared.Tie as tie
 
 field-requires : tie.Need-field-requires
 field-requires c κs = search needs

@@ -1,33 +1,25 @@
 // A line `plan work_len leaves code value result`, and the plan call that it asks for.
 ghost use mathlib.Core.Path.{_≡_};
 ghost use mathlib.Core.Bool.{true};
-ghost use Prim.Native.Nat.{_/_, _%_, _^_, _<_};
-ghost use lib.ListN.{length};
+ghost use Prim.Native.Nat.{_<_};
 ghost use Rattle.base.specs.Form.{narrow};
 ghost use Rattle.transforms.specs.Single.{outcome};
 ghost use Rattle.plan.specs.Form.{nodeLimit};
 ghost use Rattle.plan.specs.Walk as Walk;
-ghost use Rattle.replay_plans.specs.Sheets.{Placed, Lays, LaidOut};
-ghost use Rattle.replay_plans.specs.Answers.{Confirms};
+ghost use Rattle.replay.specs.Sheets.{Placed, Lays, LaidOut};
+ghost use Rattle.replay.specs.Answers.{Confirms};
+use crate::answer;
 use crate::tally::Outcome;
 use crate::tally::Said;
+use crate::tally::Told;
 use lines::Held;
 use lines::Number;
-
-// The most bytes of a work buffer that a line may ask for: what the most nodes take, as the list's largest does.
-const ROOM: usize = plan::form::NODE_LIMIT * plan::SLOT;
 
 // The most bytes of a plan that a line may have; the list's longest has 244.
 const PLAN_ROOM: usize = 512;
 
-// What a work buffer holds where no leaf stands.
-const FILL: u8 = 165;
-
 // What stands between two sheets.
 const COMMA: u8 = 44;
-
-// What the value in a reply is multiplied by.
-const VALUE_UNIT: u64 = 4294967296;
 
 const FIELDS: usize = 6;
 
@@ -41,18 +33,6 @@ struct Call {
 enum Parsed {
     Is(Call),
     Not,
-}
-
-pub fn code_of(reply: u64) -> u64
-    ensures { λ r. ⌜ r ≡ reply % 2 ^ 32 ⌝ }
-{
-    reply % VALUE_UNIT
-}
-
-pub fn value_of(reply: u64) -> u64
-    ensures { λ r. ⌜ r ≡ reply / 2 ^ 32 ⌝ }
-{
-    reply / VALUE_UNIT
 }
 
 fn call_of(line: &[u8]) -> Parsed {
@@ -134,29 +114,16 @@ fn laid_out(line: &[u8], work: &mut [u8], expected: &mut [u8]) -> Held
     Held::Len(k)
 }
 
-// Whether the gate's reply and the work buffer are what the list says.
-fn agrees(reply: u64, work: &[u8], code: u32, value: u32, expected: &[u8]) -> bool
-    ensures { λ r. ⌜ (r ≡ true → (reply % 2 ^ 32 ≡ code) × (reply / 2 ^ 32 ≡ value) × (now (work .entry) ≡ now (expected .entry))) ⌝ }
-{
-    if code_of(reply) != code as u64 {
-        return false;
-    }
-    if value_of(reply) != value as u64 {
-        return false;
-    }
-    check::same(work, expected)
-}
-
 // Makes the call, and compares. Where they agree, the list has what the definition of the plan call gives.
 fn called(call: Call, leaves: usize, plan: &[u8], work: &mut [u8], expected: &[u8]) -> Outcome
     ensures { λ r. ⌜ Confirms r (Walk.plan narrow (now (plan .entry)) (now (work .entry))) (outcome (call .code) (call .value) (now (expected .entry))) ⌝ }
 {
     let reply = gate::propagate_properties(plan, work);
-    let said = Said::of_code(call.code, call.value, leaves);
-    if agrees(reply, work, call.code, call.value, expected) {
-        return Outcome::Agrees(said);
-    }
-    Outcome::Differs(said, reply)
+    let said = Said {
+        component: 0,
+        told: Told::of_plan(call.code, call.value, leaves),
+    };
+    answer::compared(said, reply, work, call.code, call.value as u64, expected)
 }
 
 // Reads the plan, lays out the buffers, and goes on to the call.
@@ -178,28 +145,18 @@ fn compared(
     called(call, leaves, &plan[..n], work, expected)
 }
 
-// The `ensures` gives only the length, which lending a part needs.
-fn filled() -> [u8; ROOM]
-    ensures { λ r. ⌜ Walk.slotAt narrow nodeLimit ≡ length r ⌝ }
-{
-    [FILL; ROOM]
-}
-
 fn replayed(line: &[u8], call: Call) -> Outcome {
     let n = call.work_len;
-    if ROOM < n {
+    if answer::ROOM < n {
         return Outcome::Unread;
     }
     let mut plan = [0u8; PLAN_ROOM];
-    let mut work = filled();
-    let mut expected = filled();
+    let mut work = answer::filled();
+    let mut expected = answer::filled();
     compared(line, call, &mut plan, &mut work[..n], &mut expected[..n])
 }
 
 pub fn judged(line: &[u8]) -> Outcome {
-    if lines::is_comment(line) {
-        return Outcome::Comment;
-    }
     if lines::fields(line) != FIELDS {
         return Outcome::Unread;
     }

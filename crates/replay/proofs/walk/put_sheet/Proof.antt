@@ -1,4 +1,4 @@
--- `replay_plans::walk::put_sheet` meets its contract: what `bytes_of` put at the start of the rest stands at the start of the slot.
+-- `replay::walk::put_sheet` meets its contract: what `bytes_of` put at the start of the rest stands at the start of the slot.
 -- Assumes nothing.
 use Prim.Native.Nat.{ℕ, _-_, _*_}
 use lib.ListN.{length, take, drop}
@@ -7,11 +7,11 @@ use denote.Ref.{now}
 use borrow.Author.Tests.{leb-true}
 use Rattle.lines.specs.declared.Held.{Held}
 use Rattle.lines.specs.Bytes.{Puts, fieldBytes}
-use Rattle.replay_plans.proofs.Texts.{placed}
+use Rattle.replay.proofs.Texts.{placed}
 use native.Mathlib.Omega.{arith}
 use borrow.Author.Needs.{needs}
-use Rattle.replay_plans.proofs.walk.put_sheet.Statement.{statement}
-use Rattle.replay_plans.proofs.walk.put_sheet.Tie as tie
+use Rattle.replay.proofs.walk.put_sheet.Statement.{statement}
+use Rattle.replay.proofs.walk.put_sheet.Tie as tie
 
 mul-start : tie.Need-mul-start
 mul-start c = search needs

@@ -1,0 +1,71 @@
+// What the gate answers, held against what a list says, and the buffers that it is lent.
+ghost use mathlib.Core.Path.{_≡_};
+ghost use mathlib.Core.Bool.{true};
+ghost use Prim.Native.Nat.{_/_, _%_, _^_};
+ghost use lib.ListN.{length};
+ghost use Rattle.base.specs.Form.{narrow};
+ghost use Rattle.transforms.specs.Single.{outcome};
+ghost use Rattle.plan.specs.Form.{nodeLimit};
+ghost use Rattle.plan.specs.Walk as Walk;
+ghost use Rattle.gate.specs.Reply.{replied};
+ghost use Rattle.replay.specs.Answers.{Confirms};
+use crate::tally::Outcome;
+use crate::tally::Said;
+
+// The most bytes of a buffer that a line may ask for: what the most nodes take, as the list's largest work buffer does.
+pub const ROOM: usize = plan::form::NODE_LIMIT * plan::SLOT;
+
+// What a buffer holds where the list lays nothing.
+const FILL: u8 = 165;
+
+// What the value in a reply is multiplied by.
+const VALUE_UNIT: u64 = 4294967296;
+
+// The `ensures` gives only the length, which lending a part needs.
+pub fn filled() -> [u8; ROOM]
+    ensures { λ r. ⌜ Walk.slotAt narrow nodeLimit ≡ length r ⌝ }
+{
+    [FILL; ROOM]
+}
+
+pub fn code_of(reply: u64) -> u64
+    ensures { λ r. ⌜ r ≡ reply % 2 ^ 32 ⌝ }
+{
+    reply % VALUE_UNIT
+}
+
+pub fn value_of(reply: u64) -> u64
+    ensures { λ r. ⌜ r ≡ reply / 2 ^ 32 ⌝ }
+{
+    reply / VALUE_UNIT
+}
+
+// Whether the gate's reply and the lent buffer are what the list says.
+fn agrees(reply: u64, lent: &[u8], code: u32, value: u64, expected: &[u8]) -> bool
+    ensures { λ r. ⌜ (r ≡ true → replied reply (now (lent .entry)) ≡ outcome code value (now (expected .entry))) ⌝ }
+{
+    if code_of(reply) != code as u64 {
+        return false;
+    }
+    if value_of(reply) != value {
+        return false;
+    }
+    check::same(lent, expected)
+}
+
+// Where they agree, the list has what the gate answered: code, value and every byte.
+pub fn compared(
+    said: Said,
+    reply: u64,
+    lent: &[u8],
+    code: u32,
+    value: u64,
+    expected: &[u8],
+) -> Outcome
+    ensures { λ r. ⌜ Confirms r (replied reply (now (lent .entry))) (outcome code value (now (expected .entry))) ⌝ }
+{
+    if agrees(reply, lent, code, value, expected) {
+        return Outcome::Agrees(said);
+    }
+    Outcome::Differs(said, reply)
+}
