@@ -1,12 +1,23 @@
--- What a line that agrees says of the definition.
+-- What the outcome of a line says of the line's text.
+use Prim.Native.Nat.{ℕ}
 use mathlib.Core.Path.{_≡_}
+use mathlib.Core.Bool.{Bool, true, false}
+use mathlib.Core.Option.{Option, some}
+use mathlib.Core.List.{List}
 use Rattle.transforms.specs.Single as Single
+use Rattle.gate.specs.Reply.{replied}
 use Rattle.replay.specs.declared.tally.Outcome.{Outcome}
 use Rattle.replay.specs.declared.tally.Outcome.the-variants as O
 
--- where a line agrees, what is stored is what is defined: code, value and every byte
-abbrev pub Confirms : Outcome → Single.Outcome → Single.Outcome → Type 0
-Confirms (O.Agrees said) defined stored = defined ≡ stored
-Confirms (O.Differs said reply) defined stored = Unit {0}
+-- where a line agrees, what it stores is what is defined: code, value and every byte; where it differs, the reply is as defined and the line stores another
+abbrev pub Confirms : Outcome → Option Single.Outcome → Option Single.Outcome → Type 0
+Confirms (O.Agrees said) defined stored = (o : Single.Outcome) × (defined ≡ some o) × (stored ≡ some o)
+Confirms (O.Differs said reply) defined stored =
+    (bytes : List ℕ) × (o : Single.Outcome) × (defined ≡ some (replied reply bytes)) × (stored ≡ some o) × (replied reply bytes ≡ o → ⊥)
 Confirms O.Unread defined stored = Unit {0}
-Confirms O.Comment defined stored = Unit {0}
+Confirms O.Comment defined stored = ⊥
+
+-- a line that says nothing, and any other
+abbrev pub Judged : Bool → Outcome → Option Single.Outcome → Option Single.Outcome → Type 0
+Judged true o defined stored = o ≡ O.Comment
+Judged false o defined stored = Confirms o defined stored

@@ -1,2 +1,6 @@
+pub mod Texts
 pub mod Sheets
 pub mod Answers
+pub mod CallLine
+pub mod PlanLine
+pub mod ListLine

@@ -1,10 +1,10 @@
 -- The sheets that a line of the list lays into the slots of a work buffer.
-use Prim.Native.Nat.{ℕ, _+_, _≤_}
+use Prim.Native.Nat.{ℕ, _+_}
 use mathlib.Core.Path.{_≡_}
 use mathlib.Core.Bool.{cond}
-use mathlib.Core.Option.{some}
+use mathlib.Core.Option.{Option, none, some, bind}
 use mathlib.Core.List.{List, [], _∷_, _++_}
-use lib.Dec.{eqb}
+use lib.Dec.{eqb, leb}
 use lib.ListN.{length, take, drop}
 use Rattle.base.specs.Form.{narrow, longest}
 use Rattle.plan.specs.Walk.{slotAt}
@@ -28,27 +28,30 @@ texts [] = split 44 []
 texts (x ∷ []) = cond (eqb x 45) [] (split 44 (x ∷ []))
 texts (x ∷ y ∷ s) = split 44 (x ∷ y ∷ s)
 
--- the sheet of a text stands at the start of slot k, with every other byte as it was
-pub record Placed (s : List ℕ) (k : ℕ) (d d′ : List ℕ) : Type 0 where
-  pub sheet : List ℕ
-  pub told : fieldBytes s ≡ some sheet
-  pub within : length sheet ≤ longest narrow
-  pub stands : d′ ≡ take (slotAt narrow k) d ++ (sheet ++ drop (slotAt narrow k + length sheet) d)
+-- a text's sheet at the start of slot k, with every other byte as it was; none where it is no text of bytes, or longer than a slot
+unfoldable pub placed : List ℕ → ℕ → List ℕ → Option (List ℕ)
+placed s k d =
+    bind (fieldBytes s)
+    (λ sheet. cond (leb (length sheet) (longest narrow)) (some (take (slotAt narrow k) d ++ (sheet ++ drop (slotAt narrow k + length sheet) d))) none)
 
--- the sheets of these texts stand in the slots from k on
-abbrev pub Laid : List (List ℕ) → ℕ → List ℕ → List ℕ → Type 0
-Laid [] k d d′ = d′ ≡ d
-Laid (s ∷ ss) k d d′ = (m : List ℕ) × Placed s k d m × Laid ss (k + 1) m d′
+-- the sheets of these texts in the slots from k on
+unfoldable pub laid : List (List ℕ) → ℕ → List ℕ → Option (List ℕ)
+laid [] k d = some d
+laid (s ∷ ss) k d = bind (placed s k d) (λ d′. laid ss (k + 1) d′)
+
+abbrev pub leavesOf : List ℕ → List (List ℕ)
+leavesOf line = texts (fieldOf 2 line)
+
+-- the leaves of a line, and the derived sheets behind them
+unfoldable pub laidOut : List ℕ → List ℕ → Option (List ℕ)
+laidOut line d = bind (laid (leavesOf line) 0 d) (λ w. laid (texts (fieldOf 5 line)) (length (leavesOf line)) w)
 
 -- a field's sheets stand in the slots from k on, and the answer is the slot behind them
 abbrev pub Lays : Held → List ℕ → ℕ → List ℕ → List ℕ → Type 0
-Lays (H.Len n) s k d d′ = (n ≡ k + length (texts s)) × Laid (texts s) k d d′
+Lays (H.Len n) s k d d′ = (n ≡ k + length (texts s)) × (laid (texts s) k d ≡ some d′)
 Lays H.Not s k d d′ = Unit {0}
 
 -- the leaves of a line stand in the work buffer and in what is expected, and the derived sheets behind them in the latter alone
 abbrev pub LaidOut : Held → List ℕ → List ℕ → List ℕ → List ℕ → List ℕ → Type 0
-LaidOut (H.Len n) line w w′ e e′ =
-    (n ≡ length (texts (fieldOf 2 line)))
-    × Laid (texts (fieldOf 2 line)) 0 w w′
-    × ((m : List ℕ) × Laid (texts (fieldOf 2 line)) 0 e m × Laid (texts (fieldOf 5 line)) n m e′)
+LaidOut (H.Len n) line w w′ e e′ = (n ≡ length (leavesOf line)) × (laid (leavesOf line) 0 w ≡ some w′) × (laidOut line e ≡ some e′)
 LaidOut H.Not line w w′ e e′ = Unit {0}

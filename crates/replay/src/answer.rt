@@ -1,6 +1,7 @@
 // What the gate answers, held against what a list says, and the buffers that it is lent.
 ghost use mathlib.Core.Path.{_≡_};
 ghost use mathlib.Core.Bool.{true};
+ghost use mathlib.Core.Option.{some};
 ghost use Prim.Native.Nat.{_/_, _%_, _^_};
 ghost use lib.ListN.{length};
 ghost use Rattle.base.specs.Form.{narrow};
@@ -8,6 +9,7 @@ ghost use Rattle.transforms.specs.Single.{outcome};
 ghost use Rattle.plan.specs.Form.{nodeLimit};
 ghost use Rattle.plan.specs.Walk as Walk;
 ghost use Rattle.gate.specs.Reply.{replied};
+ghost use Rattle.replay.specs.Texts as Texts;
 ghost use Rattle.replay.specs.Answers.{Confirms};
 use crate::tally::Outcome;
 use crate::tally::Said;
@@ -21,9 +23,10 @@ const FILL: u8 = 165;
 // What the value in a reply is multiplied by.
 const VALUE_UNIT: u64 = 4294967296;
 
-// The `ensures` gives only the length, which lending a part needs.
+// The length stands beside, since lending a part needs it.
 pub fn filled() -> [u8; ROOM]
     ensures { λ r. ⌜ Walk.slotAt narrow nodeLimit ≡ length r ⌝ }
+    ensures { λ r. ⌜ r ≡ Texts.filled (Walk.slotAt narrow nodeLimit) ⌝ }
 {
     [FILL; ROOM]
 }
@@ -42,7 +45,7 @@ pub fn value_of(reply: u64) -> u64
 
 // Whether the gate's reply and the lent buffer are what the list says.
 fn agrees(reply: u64, lent: &[u8], code: u32, value: u64, expected: &[u8]) -> bool
-    ensures { λ r. ⌜ (r ≡ true → replied reply (now (lent .entry)) ≡ outcome code value (now (expected .entry))) ⌝ }
+    ensures { λ r. ⌜ (r ≡ true → replied reply (now (lent .entry)) ≡ outcome code value (now (expected .entry))) × (replied reply (now (lent .entry)) ≡ outcome code value (now (expected .entry)) → r ≡ true) ⌝ }
 {
     if code_of(reply) != code as u64 {
         return false;
@@ -53,7 +56,7 @@ fn agrees(reply: u64, lent: &[u8], code: u32, value: u64, expected: &[u8]) -> bo
     check::same(lent, expected)
 }
 
-// Where they agree, the list has what the gate answered: code, value and every byte.
+// They agree where the list has what the gate answered: code, value and every byte.
 pub fn compared(
     said: Said,
     reply: u64,
@@ -62,7 +65,7 @@ pub fn compared(
     value: u64,
     expected: &[u8],
 ) -> Outcome
-    ensures { λ r. ⌜ Confirms r (replied reply (now (lent .entry))) (outcome code value (now (expected .entry))) ⌝ }
+    ensures { λ r. ⌜ Confirms r (some (replied reply (now (lent .entry)))) (some (outcome code value (now (expected .entry)))) ⌝ }
 {
     if agrees(reply, lent, code, value, expected) {
         return Outcome::Agrees(said);

@@ -5,6 +5,9 @@ mod single; // a line of the list of calls, and its call
 mod tally; // what lines come to, and their counts
 mod walk; // a line of the list of plans, and its plan call
 
+ghost use Rattle.lines.specs.Fields.{isComment};
+ghost use Rattle.replay.specs.Answers.{Judged};
+ghost use Rattle.replay.specs.ListLine.{defined, stored};
 use libc::STDOUT_FILENO;
 use lines::Line;
 use lines::Window;
@@ -12,7 +15,9 @@ use tally::Outcome;
 use tally::Stored;
 use tally::Tally;
 
-fn judged(list: Stored, line: &[u8]) -> Outcome {
+fn judged(list: Stored, line: &[u8]) -> Outcome
+    ensures { λ r. ⌜ Judged (isComment (now (line .entry))) r (defined list (now (line .entry))) (stored list (now (line .entry))) ⌝ }
+{
     if lines::is_comment(line) {
         return Outcome::Comment;
     }

@@ -1,8 +1,10 @@
 // A line `component node left right out_len code result mark`, and the call that it asks for.
-ghost use mathlib.Core.Path.{_≡_};
+ghost use mathlib.Core.Option.{some};
 ghost use Rattle.base.specs.Form.{narrow};
 ghost use Rattle.transforms.specs.Single.{single, outcome};
+ghost use Rattle.replay.specs.Texts.{filled};
 ghost use Rattle.replay.specs.Answers.{Confirms};
+ghost use Rattle.replay.specs.CallLine.{CallTold, callAsks, callStores, callDefined, callStored};
 use crate::answer;
 use crate::tally::Outcome;
 use crate::tally::Said;
@@ -38,7 +40,9 @@ fn is_mark(s: &[u8]) -> bool {
     check::same(s, b"decided")
 }
 
-fn call_of(line: &[u8]) -> Parsed {
+fn call_of(line: &[u8]) -> Parsed
+    ensures { λ r. ⌜ CallTold r (now (line .entry)) ⌝ }
+{
     let a = lines::decimal(lines::field(line, 0));
     let Number::Is(component) = a else {
         return Parsed::Not;
@@ -72,7 +76,7 @@ fn called(
     out: &mut [u8],
     expected: &[u8],
 ) -> Outcome
-    ensures { λ r. ⌜ Confirms r (single narrow (call .component) (call .node) (now (left .entry)) (now (right .entry)) (now (out .entry))) (outcome (call .code) len (now (expected .entry))) ⌝ }
+    ensures { λ r. ⌜ Confirms r (some (single narrow (call .component) (call .node) (now (left .entry)) (now (right .entry)) (now (out .entry)))) (some (outcome (call .code) len (now (expected .entry)))) ⌝ }
 {
     let reply = gate::propagate_property(call.component, call.node, left, right, out);
     let said = Said {
@@ -90,7 +94,9 @@ fn compared(
     right: &mut [u8],
     out: &mut [u8],
     expected: &mut [u8],
-) -> Outcome {
+) -> Outcome
+    ensures { λ r. ⌜ Confirms r (callAsks (now (line .entry)) (call .component) (call .node) (now (out .entry))) (callStores (now (line .entry)) (call .code) (now (expected .entry))) ⌝ }
+{
     let a = lines::bytes_of(lines::field(line, 2), left);
     let Held::Len(l) = a else {
         return Outcome::Unread;
@@ -106,7 +112,9 @@ fn compared(
     called(call, &left[..l], &right[..r], len, out, expected)
 }
 
-fn replayed(line: &[u8], call: Call) -> Outcome {
+fn replayed(line: &[u8], call: Call) -> Outcome
+    ensures { λ r. ⌜ Confirms r (callAsks (now (line .entry)) (call .component) (call .node) (filled (call .«out_len»))) (callStores (now (line .entry)) (call .code) (filled (call .«out_len»))) ⌝ }
+{
     let n = call.out_len;
     if answer::ROOM < n {
         return Outcome::Unread;
@@ -125,7 +133,9 @@ fn replayed(line: &[u8], call: Call) -> Outcome {
     )
 }
 
-pub fn judged(line: &[u8]) -> Outcome {
+pub fn judged(line: &[u8]) -> Outcome
+    ensures { λ r. ⌜ Confirms r (callDefined (now (line .entry))) (callStored (now (line .entry))) ⌝ }
+{
     if lines::fields(line) != FIELDS {
         return Outcome::Unread;
     }

@@ -1,13 +1,16 @@
 // A line `plan work_len leaves code value result`, and the plan call that it asks for.
 ghost use mathlib.Core.Path.{_≡_};
 ghost use mathlib.Core.Bool.{true};
+ghost use mathlib.Core.Option.{some};
 ghost use Prim.Native.Nat.{_<_};
 ghost use Rattle.base.specs.Form.{narrow};
 ghost use Rattle.transforms.specs.Single.{outcome};
 ghost use Rattle.plan.specs.Form.{nodeLimit};
 ghost use Rattle.plan.specs.Walk as Walk;
-ghost use Rattle.replay.specs.Sheets.{Placed, Lays, LaidOut};
+ghost use Rattle.replay.specs.Sheets.{placed, Lays, LaidOut};
+ghost use Rattle.replay.specs.Texts.{filled};
 ghost use Rattle.replay.specs.Answers.{Confirms};
+ghost use Rattle.replay.specs.PlanLine.{PlanTold, planAsks, planStores, planDefined, planStored};
 use crate::answer;
 use crate::tally::Outcome;
 use crate::tally::Said;
@@ -35,7 +38,9 @@ enum Parsed {
     Not,
 }
 
-fn call_of(line: &[u8]) -> Parsed {
+fn call_of(line: &[u8]) -> Parsed
+    ensures { λ r. ⌜ PlanTold r (now (line .entry)) ⌝ }
+{
     let a = lines::decimal(lines::field(line, 1));
     let Number::Is(work_len) = a else {
         return Parsed::Not;
@@ -58,7 +63,7 @@ fn call_of(line: &[u8]) -> Parsed {
 // Puts the bytes of a text at the start of slot k; false where it is no text of bytes, or they have no place in the slot.
 fn put_sheet(s: &[u8], k: usize, buf: &mut [u8]) -> bool
     requires { ⌜ k < nodeLimit ⌝ }
-    ensures { λ r. ⌜ (r ≡ true → Placed (now (s .entry)) k (now (buf .entry)) (now (buf .exit))) ⌝ }
+    ensures { λ r. ⌜ (r ≡ true → placed (now (s .entry)) k (now (buf .entry)) ≡ some (now (buf .exit))) ⌝ }
 {
     let start = k * plan::SLOT;
     if buf.len() < start {
@@ -116,7 +121,7 @@ fn laid_out(line: &[u8], work: &mut [u8], expected: &mut [u8]) -> Held
 
 // Makes the call, and compares. Where they agree, the list has what the definition of the plan call gives.
 fn called(call: Call, leaves: usize, plan: &[u8], work: &mut [u8], expected: &[u8]) -> Outcome
-    ensures { λ r. ⌜ Confirms r (Walk.plan narrow (now (plan .entry)) (now (work .entry))) (outcome (call .code) (call .value) (now (expected .entry))) ⌝ }
+    ensures { λ r. ⌜ Confirms r (some (Walk.plan narrow (now (plan .entry)) (now (work .entry)))) (some (outcome (call .code) (call .value) (now (expected .entry)))) ⌝ }
 {
     let reply = gate::propagate_properties(plan, work);
     let said = Said {
@@ -133,7 +138,9 @@ fn compared(
     plan: &mut [u8],
     work: &mut [u8],
     expected: &mut [u8],
-) -> Outcome {
+) -> Outcome
+    ensures { λ r. ⌜ Confirms r (planAsks (now (line .entry)) (now (work .entry))) (planStores (now (line .entry)) (call .code) (call .value) (now (expected .entry))) ⌝ }
+{
     let a = lines::bytes_of(lines::field(line, 0), plan);
     let Held::Len(n) = a else {
         return Outcome::Unread;
@@ -145,7 +152,9 @@ fn compared(
     called(call, leaves, &plan[..n], work, expected)
 }
 
-fn replayed(line: &[u8], call: Call) -> Outcome {
+fn replayed(line: &[u8], call: Call) -> Outcome
+    ensures { λ r. ⌜ Confirms r (planAsks (now (line .entry)) (filled (call .«work_len»))) (planStores (now (line .entry)) (call .code) (call .value) (filled (call .«work_len»))) ⌝ }
+{
     let n = call.work_len;
     if answer::ROOM < n {
         return Outcome::Unread;
@@ -156,7 +165,9 @@ fn replayed(line: &[u8], call: Call) -> Outcome {
     compared(line, call, &mut plan, &mut work[..n], &mut expected[..n])
 }
 
-pub fn judged(line: &[u8]) -> Outcome {
+pub fn judged(line: &[u8]) -> Outcome
+    ensures { λ r. ⌜ Confirms r (planDefined (now (line .entry))) (planStored (now (line .entry))) ⌝ }
+{
     if lines::fields(line) != FIELDS {
         return Outcome::Unread;
     }

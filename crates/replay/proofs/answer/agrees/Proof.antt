@@ -1,9 +1,9 @@
 -- `replay::answer::agrees` meets its contract: the last answer is that of `same`, after both halves of the reply.
 -- Assumes nothing.
-use mathlib.Core.Path.{_≡_}
+use mathlib.Core.Path.{_≡_, ap}
 use Prim.Native.Nat.{ℕ}
 use mathlib.Core.List.{List}
-use Rattle.transforms.specs.Single.{outcome}
+use Rattle.transforms.specs.Single.{Outcome, outcome}
 use borrow.Author.Needs.{needs}
 use native.Mathlib.Omega.{arith}
 use Rattle.replay.proofs.answer.agrees.Statement.{statement}
@@ -16,19 +16,19 @@ code-of-requires : tie.Need-code-of-requires
 code-of-requires c κs = search needs
 
 returns : tie.Need-returns
-returns c = λ e. let z : _≡_ {A = ℕ} 0 1 = cc in absurd (omega arith)
+returns c = (λ e. let z : _≡_ {A = ℕ} 0 1 = cc in absurd (omega arith), λ e. absurd (omega (arith, c .before .code-of .ensures, ap (λ (o : Outcome). o .code) e)))
 
 value-of-requires : tie.Need-value-of-requires
 value-of-requires c κs = search needs
 
 returns-2 : tie.Need-returns-2
-returns-2 c = λ e. let z : _≡_ {A = ℕ} 0 1 = cc in absurd (omega arith)
+returns-2 c = (λ e. let z : _≡_ {A = ℕ} 0 1 = cc in absurd (omega arith), λ e. absurd (omega (arith, c .before .value-of .ensures, ap (λ (o : Outcome). o .value) e)))
 
 same-requires : tie.Need-same-requires
 same-requires c κs = search needs
 
 returns-3 : tie.Need-returns-3
-returns-3 c = λ e. alike (omega (arith, c .before .before .before .before .code-of .ensures)) (omega (arith, c .before .before .value-of .ensures)) (c .same .ensures .0 e)
+returns-3 c = (λ e. alike (omega (arith, c .before .before .before .before .code-of .ensures)) (omega (arith, c .before .before .value-of .ensures)) (c .same .ensures .0 e), λ e. c .same .ensures .1 (ap (λ (o : Outcome). o .bytes) e))
 
 pub agrees-spec : {M : Type 1} → statement M
 agrees-spec =

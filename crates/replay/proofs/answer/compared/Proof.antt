@@ -1,5 +1,11 @@
 -- `replay::answer::compared` meets its contract: `agrees` finds the answer to be the list's.
 -- Assumes nothing.
+use mathlib.Core.Path.{refl, sym, ap}
+use mathlib.Core.Option.{Option, some}
+use denote.Ref.{now}
+use Rattle.transforms.specs.Single.{Outcome, outcome}
+use Rattle.gate.specs.Reply.{replied}
+use Rattle.replay.proofs.Splits.{not-both}
 use borrow.Author.Needs.{needs}
 use Rattle.replay.proofs.answer.compared.Statement.{statement}
 use Rattle.replay.proofs.answer.compared.Tie as tie
@@ -8,10 +14,14 @@ agrees-requires : tie.Need-agrees-requires
 agrees-requires c κs = search needs
 
 returns : tie.Need-returns
-returns c = c .before .agrees .ensures (c .if1 .taken)
+returns c =
+    let a = c .before .before .before .before .args in
+    (replied (a .reply) (now (a .lent)), refl, ap {B = Option Outcome} some (sym (c .before .agrees .ensures .0 (c .if1 .taken))))
 
 returns-2 : tie.Need-returns-2
-returns-2 c = search needs
+returns-2 c =
+    let a = c .before .before .before .before .args in
+    (now (a .lent), outcome (a .code) (a .value) (now (a .expected)), refl, refl, λ e. not-both (c .if1 .left) (c .before .agrees .ensures .1 e))
 
 pub compared-spec : {M : Type 1} → statement M
 compared-spec = tie.close (tie.spec agrees-requires returns returns-2)

@@ -1,13 +1,32 @@
--- `replay::single::compared` is safe and ends: what `bytes_of` put is within its buffer.
+-- `replay::single::compared` meets its contract: what `bytes_of` put is what the fields tell, within the buffers.
 -- Assumes nothing.
-use mathlib.Core.Path.{sym, subst}
+use mathlib.Core.Path.{_≡_, sym, subst}
 use lib.ListN.{length}
 use lib.Seq.{length-take-le}
 use Rattle.lines.specs.declared.Held.{Held}
-use Rattle.lines.specs.Bytes.{Within}
+use Rattle.lines.specs.Bytes.{Within, Puts, fieldBytes}
+use Prim.Native.Nat.{ℕ}
+use mathlib.Core.Option.{some, bind}
+use mathlib.Core.List.{List}
+use denote.Ref.{now}
+use Rattle.base.specs.Form.{narrow}
+use Rattle.transforms.specs.Single.{outcome, single}
+use Rattle.lines.specs.Fields.{fieldOf}
+use Rattle.lines.specs.declared.Held.the-variants as H
+use Rattle.replay.specs.Texts.{bytesAt}
+use Rattle.replay.specs.CallLine.{callAsks, callStores}
+use Rattle.replay.proofs.Buffers.{confirms, bytes-told, bytes-stored}
 use borrow.Author.Needs.{needs}
 use Rattle.replay.proofs.single.compared.Statement.{statement}
 use Rattle.replay.proofs.single.compared.Tie as tie
+
+asked : (line : List ℕ) (component node : ℕ) (out : List ℕ) {l r : List ℕ} → bytesAt 2 line ≡ some l → bytesAt 3 line ≡ some r → callAsks line component node out ≡ some (single narrow component node l r out)
+unfolding callAsks bind
+asked line component node out e f = rw (e, f)
+
+stored : (line : List ℕ) {t : List ℕ} → t ≡ fieldOf 6 line → (d d′ : List ℕ) {h : Held} {n : ℕ} → h ≡ H.Len n → Puts h (fieldBytes t) d d′ → (code : ℕ) → callStores line code d ≡ some (outcome code n d′)
+unfolding callStores
+stored line f d d′ e p code = bytes-stored f d d′ e p code
 
 field-requires : tie.Need-field-requires
 field-requires c κs = search needs
@@ -104,7 +123,16 @@ same-length-10 : tie.Need-same-length-10
 same-length-10 c = search needs
 
 returns-4 : tie.Need-returns-4
-returns-4 c = search needs
+returns-4 c =
+    let a = c .before .before .before .before .before .before .before .before .before .before .before .before .before .before .before .before .before .before .before .before .before .before .before .before .before .before .before .before .before .before .before .before .before .before .before .before .args in
+    let line = now (a .line) in
+    let left = c .before .before .before .before .before .before .before .before .before .before .before .before .before .before .before .before .before .before .before .before .before .before .before .before .before .before .before .before in
+    let right = c .before .before .before .before .before .before .before .before .before .before .before .before .before .before .before .before .before .before .before .before in
+    let result = c .before .before .before .before .before .before .before .before .before .before .before .before in
+    let l = bytes-told (left .before .before .field .ensures) (now (a .left)) (left .bytes-of .last .1 .0) (c .before .before .before .before .before .before .before .before .before .before .before .before .before .before .before .before .before .before .before .before .before .before .before .before .a .given .1) (left .bytes-of .ensures .0) in
+    let r = bytes-told (right .before .before .field2 .ensures) (now (a .right)) (right .bytes-of2 .last .1 .0) (c .before .before .before .before .before .before .before .before .before .before .before .before .before .before .before .before .b .given .1) (right .bytes-of2 .ensures .0) in
+    let made = c .before .before .called in
+    confirms (made .result) (asked line _ _ _ l r) (stored line (result .before .before .field3 .ensures) (now (a .expected)) (result .bytes-of3 .last .1 .0) (c .before .before .before .before .before .before .before .before .c .given .1) (result .bytes-of3 .ensures .0) (a .call .code)) (made .ensures)
 
 pub compared-spec : {M : Type 1} → statement M
 compared-spec =

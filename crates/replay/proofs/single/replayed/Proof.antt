@@ -1,7 +1,11 @@
--- `replay::single::replayed` is safe and ends: the length that a line asks for is within the buffers.
+-- `replay::single::replayed` meets its contract: the length that a line asks for is within the filled buffers.
 -- Assumes nothing.
-use mathlib.Core.Path.{sym}
+use mathlib.Core.Path.{sym, ap}
 use lib.Seq.{length-take-le}
+use Prim.Native.Nat.{_≤_}
+use denote.Ref.{now}
+use Rattle.replay.specs.CallLine.{callAsks, callStores}
+use Rattle.replay.proofs.Buffers.{confirms, part-filled}
 use native.Mathlib.Omega.{arith}
 use borrow.Author.Needs.{needs}
 use Rattle.replay.proofs.single.replayed.Statement.{statement}
@@ -38,7 +42,13 @@ compared-requires : tie.Need-compared-requires
 compared-requires c κs = search needs
 
 returns-2 : tie.Need-returns-2
-returns-2 c = search needs
+returns-2 c =
+    let a = c .before .before .before .before .before .before .before .before .before .before .before .before .before .args in
+    let n = a .call .«out_len» in
+    let line = now (a .line) in
+    let within : n ≤ 41088 = omega (arith, c .before .before .before .before .before .before .before .before .before .before .before .if1 .left) in
+    let made = c .before .before .before .before .compared in
+    confirms (made .result) (ap (callAsks line (a .call .component) (a .call .node)) (part-filled n 41088 within (c .before .before .before .before .before .before .before .before .before .before .filled .ensures .1))) (ap (callStores line (a .call .code)) (part-filled n 41088 within (c .before .before .before .before .before .before .before .before .before .filled2 .ensures .1))) (made .ensures)
 
 pub replayed-spec : {M : Type 1} → statement M
 replayed-spec =

@@ -1,13 +1,32 @@
--- `replay::walk::compared` is safe and ends: what `bytes_of` put is within its buffer.
+-- `replay::walk::compared` meets its contract: what `bytes_of` put is what the field tells, within the buffer.
 -- Assumes nothing.
-use mathlib.Core.Path.{sym, subst}
+use mathlib.Core.Path.{_≡_, sym, subst}
 use lib.ListN.{length}
 use lib.Seq.{length-take-le}
 use Rattle.lines.specs.declared.Held.{Held}
 use Rattle.lines.specs.Bytes.{Within}
+use Prim.Native.Nat.{ℕ}
+use mathlib.Core.Option.{some, bind}
+use mathlib.Core.List.{List}
+use denote.Ref.{now}
+use Rattle.base.specs.Form.{narrow}
+use Rattle.transforms.specs.Single.{outcome}
+use Rattle.plan.specs.Walk as Walk
+use Rattle.replay.specs.Texts.{bytesAt}
+use Rattle.replay.specs.Sheets.{laid, leavesOf, laidOut, LaidOut}
+use Rattle.replay.specs.PlanLine.{planAsks, planStores}
+use Rattle.replay.proofs.Buffers.{confirms, bytes-told}
 use borrow.Author.Needs.{needs}
 use Rattle.replay.proofs.walk.compared.Statement.{statement}
 use Rattle.replay.proofs.walk.compared.Tie as tie
+
+asked : (line work : List ℕ) {p w : List ℕ} → bytesAt 0 line ≡ some p → laid (leavesOf line) 0 work ≡ some w → planAsks line work ≡ some (Walk.plan narrow p w)
+unfolding planAsks bind
+asked line work e f = rw (e, f)
+
+stored : (line : List ℕ) (code value : ℕ) (d : List ℕ) {d′ : List ℕ} → laidOut line d ≡ some d′ → planStores line code value d ≡ some (outcome code value d′)
+unfolding planStores bind
+stored line code value d e = rw e
 
 field-requires : tie.Need-field-requires
 field-requires c κs = search needs
@@ -73,7 +92,15 @@ same-length-7 : tie.Need-same-length-7
 same-length-7 c = search needs
 
 returns-3 : tie.Need-returns-3
-returns-3 c = search needs
+returns-3 c =
+    let a = c .before .before .before .before .before .before .before .before .before .before .before .before .before .before .before .before .before .before .before .before .before .before .before .before .before .before .before .before .args in
+    let line = now (a .line) in
+    let put = c .before .before .before .before .before .before .before .before .before .before .before .before .before .before .before .before .before .before .before .before .before in
+    let p = bytes-told (put .before .before .field .ensures) (now (a .plan)) (put .bytes-of .last .1 .0) (c .before .before .before .before .before .before .before .before .before .before .before .before .before .before .before .before .before .a .given .1) (put .bytes-of .ensures .0) in
+    let lay = c .before .before .before .before .before .before .before .before .before .before .before .before .before .laid-out in
+    let out = subst (λ (h : Held). LaidOut h line (now (a .work)) (lay .last .1 .0) (now (a .expected)) (lay .last .1 .1 .0)) (c .before .before .before .before .before .before .before .b .given .1) (lay .ensures) in
+    let made = c .before .before .called in
+    confirms (made .result) (asked line (now (a .work)) p (out .1)) (stored line (a .call .code) (a .call .value) (now (a .expected)) (out .2)) (made .ensures)
 
 pub compared-spec : {M : Type 1} → statement M
 compared-spec =

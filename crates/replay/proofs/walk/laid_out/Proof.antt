@@ -5,6 +5,7 @@ use native.Mathlib.Nat.{zero-add}
 use denote.Ref.{now}
 use Rattle.lines.specs.declared.Held.{Held}
 use Rattle.replay.specs.Sheets.{Lays}
+use Rattle.replay.proofs.Buffers.{laid-out}
 use borrow.Author.Needs.{needs}
 use Rattle.replay.proofs.walk.laid_out.Statement.{statement}
 use Rattle.replay.proofs.walk.laid_out.Tie as tie
@@ -83,7 +84,8 @@ returns-4 c =
     let a = subst (λ (h : Held). Lays h (now (leaves .result)) 0 (now (args .work)) (put .last .1 .1 .0)) (c .before .before .before .before .before .before .before .before .before .before .before .before .before .before .a .given .1) (put .ensures) in
     let b = subst (λ (h : Held). Lays h (now (leaves .result)) 0 (now (args .expected)) (again .last .1 .1 .0)) (c .before .before .before .before .before .before .before .enum-told2 .given .1) (again .ensures) in
     let d = subst (λ (h : Held). Lays h (now (c .before .before .before .before .before .before .field2 .result)) n (again .last .1 .1 .0) (derived .last .1 .1 .0)) (c .enum-told4 .given .1) (derived .ensures) in
-    rw (sym (leaves .ensures), sym (c .before .before .before .before .before .before .field2 .ensures)) (a .0 ∙ zero-add _, a .1, (again .last .1 .1 .0, b .1, d .1))
+    let n-told = a .0 ∙ zero-add _ in
+    (rw (sym (leaves .ensures)) n-told, rw (sym (leaves .ensures)) (a .1), laid-out (now (args .line)) (now (args .expected)) (leaves .ensures) (c .before .before .before .before .before .before .field2 .ensures) n-told (b .1) (d .1))
 
 pub laid-out-spec : {M : Type 1} → statement M
 laid-out-spec =

@@ -4,10 +4,9 @@ use Prim.Native.Nat.{ℕ, _-_, _*_}
 use lib.ListN.{length, take, drop}
 use mathlib.Core.Path.{_≡_, subst}
 use denote.Ref.{now}
-use borrow.Author.Tests.{leb-true}
 use Rattle.lines.specs.declared.Held.{Held}
 use Rattle.lines.specs.Bytes.{Puts, fieldBytes}
-use Rattle.replay.proofs.Texts.{placed}
+use Rattle.replay.proofs.Buffers.{slot-told}
 use native.Mathlib.Omega.{arith}
 use borrow.Author.Needs.{needs}
 use Rattle.replay.proofs.walk.put_sheet.Statement.{statement}
@@ -52,7 +51,7 @@ returns-3 c = λ e.
     let a = c .before .before .before .before .before .before .before .before .before .before .args in
     let d = now (a .buf) in
     let puts = subst (λ (h : Held). Puts h (fieldBytes (now (a .s))) (take (length d - a .k * 1284) (drop (a .k * 1284) d)) (put .bytes-of .last .1 .0)) (c .before .held .given .1) (put .bytes-of .ensures .0) in
-    record { sheet = puts .0; told = puts .1; within = rw (puts .2) (leb-true _ 1284 e); stands = placed (a .k * 1284) d (puts .0) (puts .2) (puts .3) }
+    slot-told (now (a .s)) (a .k) d (puts .0) (puts .1) (puts .2) e (puts .3)
 
 pub put-sheet-spec : {M : Type 1} → statement M
 put-sheet-spec =

@@ -1,16 +1,17 @@
 -- `replay::walk::put_sheets` meets its contract. The loop's invariant: laying the sheets that are left, from slot k on, lays all. The measure is the number of slots that are left.
 -- Assumes nothing.
 use Prim.Native.Nat.{ℕ, _+_, _-_, _≤_}
-use mathlib.Core.Path.{_≡_, refl, ap, _∙_}
+use mathlib.Core.Path.{_≡_, refl, sym, ap, _∙_}
 use native.Mathlib.Nat.{add-zero}
 use denote.Ref.{now}
-use Rattle.replay.proofs.Texts.{not-both, split-last, split-more, texts-none, texts-some}
-use mathlib.Core.List.{List}
+use Rattle.replay.proofs.Splits.{not-both, split-last, split-more, texts-none, texts-some}
+use mathlib.Core.List.{[]}
 use lib.ListN.{length, drop}
 use borrow.Author.Needs.{needs}
 use borrow.Author.Tests.{not-false}
 use native.Mathlib.Omega.{arith}
-use Rattle.replay.specs.Sheets.{split, Laid}
+use Rattle.replay.proofs.Buffers.{laid-more, laid-none}
+use Rattle.replay.specs.Sheets.{split, laid}
 use Rattle.replay.proofs.walk.put_sheets.Statement.{statement}
 use Rattle.replay.proofs.walk.put_sheets.Tie as tie
 
@@ -19,7 +20,7 @@ Inv-loop s slot buf₀ k₀ at₀ buf k at =
     (at ≤ length s)
     × (length buf ≡ length buf₀)
     × (k + length (split 44 (drop at s)) ≡ slot + length (split 44 s))
-    × ((d : List ℕ) → Laid (split 44 (drop at s)) k buf d → Laid (split 44 s) slot buf₀ d)
+    × (laid (split 44 (drop at s)) k buf ≡ laid (split 44 s) slot buf₀)
 
 abbrev μ-loop : tie.MeasureT-loop
 μ-loop s slot buf₀ k₀ at₀ buf k at = 32 - k
@@ -33,10 +34,10 @@ same-requires c κs = search needs
 returns : tie.Need-returns Inv-loop μ-loop
 returns c =
     let none = texts-none (now (c .before .before .before .before .before .args .s)) (c .before .same .ensures .0 (c .if1 .taken)) in
-    (rw (none, add-zero), rw none refl)
+    (rw (none, add-zero), rw none (laid-none _ _))
 
 loop-holds : tie.Need-loop-holds Inv-loop μ-loop
-loop-holds c = (search needs, refl, refl, λ d l. l)
+loop-holds c = (search needs, refl, refl, refl)
 
 find-requires : tie.Need-find-requires Inv-loop μ-loop
 find-requires c κs = search needs
@@ -74,7 +75,7 @@ returns-3 c =
     let all = texts-some s (λ e. not-both (c .before .before .before .before .before .before .before .before .before .before .if1 .left) (c .before .before .before .before .before .before .before .before .before .before .before .same .ensures .1 e)) in
     let last = split-last (c .before .before .before .before .before .before .before .find .ensures) (c .if3 .taken) in
     let placed = put .ensures (not-false (put .result) (c .before .if2 .left)) in
-    (rw all (omega (arith, l .inv .2, ap length last)), rw all (l .inv .3 _ (rw last (put .last .1 .1 .0, placed, refl))))
+    (rw all (omega (arith, l .inv .2, ap length last)), rw all (sym (l .inv .3) ∙ rw last (laid-more _ [] _ _ placed ∙ laid-none _ _)))
 
 add-at : tie.Need-add-at Inv-loop μ-loop
 add-at c = search needs
@@ -88,7 +89,7 @@ loop-again c =
     let put = c .before .before .before .before .put-sheet in
     let more = split-more (c .before .before .before .before .before .before .before .find .ensures) (c .if3 .left) in
     let placed = put .ensures (not-false (put .result) (c .before .if2 .left)) in
-    (omega (arith, c .before .before .before .before .before .before .before .find .ensures .high), put .kept .1 .1 .0 ∙ l .inv .1, omega (arith, l .inv .2, ap length more), λ d rest. l .inv .3 d (rw more (put .last .1 .1 .0, placed, rest)))
+    (omega (arith, c .before .before .before .before .before .before .before .find .ensures .high), put .kept .1 .1 .0 ∙ l .inv .1, omega (arith, l .inv .2, ap length more), sym (rw more (laid-more _ _ _ _ placed)) ∙ l .inv .3)
 
 same-length-3 : tie.Need-same-length-3 Inv-loop μ-loop
 same-length-3 c = search needs

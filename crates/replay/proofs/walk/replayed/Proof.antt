@@ -1,7 +1,11 @@
--- `replay::walk::replayed` is safe and ends: the length that a line asks for is within the buffers.
+-- `replay::walk::replayed` meets its contract: the length that a line asks for is within the filled buffers.
 -- Assumes nothing.
-use mathlib.Core.Path.{sym}
+use mathlib.Core.Path.{sym, ap}
 use lib.Seq.{length-take-le}
+use Prim.Native.Nat.{_≤_}
+use denote.Ref.{now}
+use Rattle.replay.specs.PlanLine.{planAsks, planStores}
+use Rattle.replay.proofs.Buffers.{confirms, part-filled}
 use native.Mathlib.Omega.{arith}
 use borrow.Author.Needs.{needs}
 use Rattle.replay.proofs.walk.replayed.Statement.{statement}
@@ -35,7 +39,13 @@ compared-requires : tie.Need-compared-requires
 compared-requires c κs = search needs
 
 returns-2 : tie.Need-returns-2
-returns-2 c = search needs
+returns-2 c =
+    let a = c .before .before .before .before .before .before .before .before .before .before .before .args in
+    let n = a .call .«work_len» in
+    let line = now (a .line) in
+    let within : n ≤ 41088 = omega (arith, c .before .before .before .before .before .before .before .before .before .if1 .left) in
+    let made = c .before .before .before .compared in
+    confirms (made .result) (ap (planAsks line) (part-filled n 41088 within (c .before .before .before .before .before .before .before .before .filled .ensures .1))) (ap (planStores line (a .call .code) (a .call .value)) (part-filled n 41088 within (c .before .before .before .before .before .before .before .filled2 .ensures .1))) (made .ensures)
 
 pub replayed-spec : {M : Type 1} → statement M
 replayed-spec =

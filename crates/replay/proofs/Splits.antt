@@ -1,16 +1,13 @@
--- Laws of `split` and `texts`: the first text, and those behind it; and a sheet that was put into the rest of a buffer.
+-- Laws of `split` and `texts`: the first text, and those behind it.
 -- Assumes nothing.
-use Prim.Native.Nat.{ℕ, suc, _+_, _-_, _≤_, _<_}
+use Prim.Native.Nat.{ℕ, _+_, _-_, _≤_, _<_}
 use mathlib.Core.Path.{_≡_, refl, sym, ap, subst, _∙_}
 use mathlib.Core.Bool.{Bool, true, false}
-use mathlib.Core.List.{List, [], _∷_, _++_}
+use mathlib.Core.List.{List, [], _∷_}
 use native.Mathlib.Omega.{arith}
 use lib.Dec.{T, eqb}
 use lib.ListN.{length, take, drop, length-drop}
-use lib.Seq.{drop-drop}
 use borrow.Author.Tests.{ne-eqb}
-use borrow.Rule.Slice.PartMut.{putMid}
-use Rattle.plan.proofs.Parts.{part-lent, part-back}
 use Rattle.lines.specs.Fields.{before, behind, Found}
 use Rattle.lines.proofs.Splits.{found-before, found-behind}
 use Rattle.replay.specs.Sheets.{withByte, split, texts}
@@ -65,9 +62,3 @@ unfolding texts
 texts-some [] h = refl
 texts-some (x ∷ []) h = rw (ne-eqb x 45 (λ e. h (ap (λ (n : ℕ). n ∷ []) e)))
 texts-some (x ∷ y ∷ s) h = refl
-
--- `vs` stand at `at`, once the rest of the buffer from there on is back
-pub placed : (at : ℕ) (d vs : List ℕ) {n : ℕ} {d′ : List ℕ} → length vs ≡ n → d′ ≡ vs ++ drop n (take (length d - at) (drop at d)) → putMid at (length d - at) d d′ ≡ take at d ++ (vs ++ drop (at + length vs) d)
-placed at d vs {n} {d′} e f =
-    part-back at d d′
-    ∙ ap (λ (l : List ℕ). take at d ++ l) (f ∙ ap (λ (l : List ℕ). vs ++ drop n l) (part-lent at d) ∙ ap (λ (k : ℕ). vs ++ drop k (drop at d)) (sym e) ∙ ap (λ (l : List ℕ). vs ++ l) (drop-drop (length vs) at d))
