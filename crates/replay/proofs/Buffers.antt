@@ -8,13 +8,13 @@ use mathlib.Core.List.{List, [], _∷_, _++_}
 use native.Mathlib.Omega.{arith}
 use lib.Dec.{leb}
 use lib.ListN.{length, take, drop}
-use lib.Seq.{drop-drop, take-at}
+use lib.Seq.{drop-drop, take-at, length-take-le}
 use borrow.Rule.Slice.PartMut.{putMid}
 use Rattle.transforms.specs.Single as Single
 use Rattle.plan.proofs.Parts.{part-lent, part-back}
 use Rattle.lines.specs.Fields.{fieldOf}
 use Rattle.lines.specs.Digits.{numberOf}
-use Rattle.lines.specs.Bytes.{fieldBytes, Puts}
+use Rattle.lines.specs.Bytes.{fieldBytes, Puts, Within}
 use Rattle.lines.specs.declared.Number.{Number}
 use Rattle.lines.specs.declared.Held.{Held}
 use Rattle.lines.specs.declared.Held.the-variants as H
@@ -50,6 +50,14 @@ module _ {t s : List ℕ} (f : t ≡ s) (d d′ : List ℕ) {h : Held} {n : ℕ}
   pub bytes-stored : (code : ℕ) → bind (fieldBytes s) (λ vs. some (Single.outcome code (length vs) (vs ++ drop (length vs) d))) ≡ some (Single.outcome code n d′)
   unfolding bind
   bytes-stored code = rw (puts .1, puts .2, sym (puts .3))
+
+-- what was put is within its buffer
+module _ {h : Held} {n : ℕ} (e : h ≡ H.Len n) where
+  pub put-within : (m : ℕ) → Within h m → n ≤ m
+  put-within m w = subst (λ (k : Held). Within k m) e w
+
+  pub put-length : (d : List ℕ) → Within h (length d) → n ≡ length (take n d)
+  put-length d w = sym (length-take-le n d (put-within (length d) w))
 
 -- a sheet that was put into the rest of a buffer, once that is back
 pub slot-told : (s : List ℕ) (k : ℕ) (d vs : List ℕ) {n : ℕ} {d′ : List ℕ} → fieldBytes s ≡ some vs → length vs ≡ n → leb n 1284 ≡ true → d′ ≡ vs ++ drop n (take (length d - k * 1284) (drop (k * 1284) d)) → placed s k d ≡ some (putMid (k * 1284) (length d - k * 1284) d d′)

@@ -66,13 +66,15 @@ fn replay(list: Stored, fd: i32, buf: &mut [u8]) -> Tally {
     tally
 }
 
-// Replays the list that argument k names.
+// Replays the list that argument k names. A program has no exit status of its own, so what fails stands in the output.
 fn run(list: Stored, k: usize) {
     let mut path = io::buffer();
     let length = os::arg(k, &mut path);
     let fd = os::open_read(&path[..length]);
     if fd < 0 {
         os::fail(&path[..length]);
+        tally::name(list);
+        io::write_all(STDOUT_FILENO, b"cannot be opened\n");
         return;
     }
     let mut buf = io::large_buffer();

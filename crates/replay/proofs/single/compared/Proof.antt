@@ -1,10 +1,9 @@
 -- `replay::single::compared` meets its contract: what `bytes_of` put is what the fields tell, within the buffers.
 -- Assumes nothing.
-use mathlib.Core.Path.{_≡_, sym, subst}
+use mathlib.Core.Path.{_≡_}
 use lib.ListN.{length}
-use lib.Seq.{length-take-le}
 use Rattle.lines.specs.declared.Held.{Held}
-use Rattle.lines.specs.Bytes.{Within, Puts, fieldBytes}
+use Rattle.lines.specs.Bytes.{Puts, fieldBytes}
 use Prim.Native.Nat.{ℕ}
 use mathlib.Core.Option.{some, bind}
 use mathlib.Core.List.{List}
@@ -15,7 +14,7 @@ use Rattle.lines.specs.Fields.{fieldOf}
 use Rattle.lines.specs.declared.Held.the-variants as H
 use Rattle.replay.specs.Texts.{bytesAt}
 use Rattle.replay.specs.CallLine.{callAsks, callStores}
-use Rattle.replay.proofs.Buffers.{confirms, bytes-told, bytes-stored}
+use Rattle.replay.proofs.Buffers.{confirms, bytes-told, bytes-stored, put-within, put-length}
 use borrow.Author.Needs.{needs}
 use Rattle.replay.proofs.single.compared.Statement.{statement}
 use Rattle.replay.proofs.single.compared.Tie as tie
@@ -92,20 +91,24 @@ returns-3 : tie.Need-returns-3
 returns-3 c = search needs
 
 slice-reshare-prefix-called : tie.Need-slice-reshare-prefix-called
-slice-reshare-prefix-called c = subst (λ (h : Held). Within h (length (c .before .before .before .before .before .before .before .before .before .before .before .before .before .before .before .before .before .before .before .before .before .bytes-of .last .1 .0))) (c .before .before .before .before .before .before .before .before .before .before .before .before .before .before .before .before .before .a .given .1) (c .before .before .before .before .before .before .before .before .before .before .before .before .before .before .before .before .before .before .before .before .before .bytes-of .ensures .1)
+slice-reshare-prefix-called c =
+    let put = c .before .before .before .before .before .before .before .before .before .before .before .before .before .before .before .before .before .before .before .before .before .bytes-of in
+    put-within (c .before .before .before .before .before .before .before .before .before .before .before .before .before .before .before .before .before .a .given .1) (length (put .last .1 .0)) (put .ensures .1)
 
 slice-aggregate-called : tie.Need-slice-aggregate-called
 slice-aggregate-called c =
-    let left = c .before .before .before .before .before .before .before .before .before .before .before .before .before .before .before .before .before .before .before .before .before .before .bytes-of .last .1 .0 in
-    sym (length-take-le _ left (subst (λ (h : Held). Within h (length left)) (c .before .before .before .before .before .before .before .before .before .before .before .before .before .before .before .before .before .before .a .given .1) (c .before .before .before .before .before .before .before .before .before .before .before .before .before .before .before .before .before .before .before .before .before .before .bytes-of .ensures .1)))
+    let put = c .before .before .before .before .before .before .before .before .before .before .before .before .before .before .before .before .before .before .before .before .before .before .bytes-of in
+    put-length (c .before .before .before .before .before .before .before .before .before .before .before .before .before .before .before .before .before .before .a .given .1) (put .last .1 .0) (put .ensures .1)
 
 slice-reshare-prefix-called-2 : tie.Need-slice-reshare-prefix-called-2
-slice-reshare-prefix-called-2 c = subst (λ (h : Held). Within h (length (c .before .before .before .before .before .before .before .before .before .before .before .before .before .before .bytes-of2 .last .1 .0))) (c .before .before .before .before .before .before .before .before .before .before .b .given .1) (c .before .before .before .before .before .before .before .before .before .before .before .before .before .before .bytes-of2 .ensures .1)
+slice-reshare-prefix-called-2 c =
+    let put = c .before .before .before .before .before .before .before .before .before .before .before .before .before .before .bytes-of2 in
+    put-within (c .before .before .before .before .before .before .before .before .before .before .b .given .1) (length (put .last .1 .0)) (put .ensures .1)
 
 slice-aggregate-called-2 : tie.Need-slice-aggregate-called-2
 slice-aggregate-called-2 c =
-    let right = c .before .before .before .before .before .before .before .before .before .before .before .before .before .before .before .bytes-of2 .last .1 .0 in
-    sym (length-take-le _ right (subst (λ (h : Held). Within h (length right)) (c .before .before .before .before .before .before .before .before .before .before .before .b .given .1) (c .before .before .before .before .before .before .before .before .before .before .before .before .before .before .before .bytes-of2 .ensures .1)))
+    let put = c .before .before .before .before .before .before .before .before .before .before .before .before .before .before .before .bytes-of2 in
+    put-length (c .before .before .before .before .before .before .before .before .before .before .before .b .given .1) (put .last .1 .0) (put .ensures .1)
 
 called-requires : tie.Need-called-requires
 called-requires c κs = search needs

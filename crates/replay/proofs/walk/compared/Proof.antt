@@ -1,10 +1,8 @@
 -- `replay::walk::compared` meets its contract: what `bytes_of` put is what the field tells, within the buffer.
 -- Assumes nothing.
-use mathlib.Core.Path.{_≡_, sym, subst}
+use mathlib.Core.Path.{_≡_, subst}
 use lib.ListN.{length}
-use lib.Seq.{length-take-le}
 use Rattle.lines.specs.declared.Held.{Held}
-use Rattle.lines.specs.Bytes.{Within}
 use Prim.Native.Nat.{ℕ}
 use mathlib.Core.Option.{some, bind}
 use mathlib.Core.List.{List}
@@ -15,7 +13,7 @@ use Rattle.plan.specs.Walk as Walk
 use Rattle.replay.specs.Texts.{bytesAt}
 use Rattle.replay.specs.Sheets.{laid, leavesOf, laidOut, LaidOut}
 use Rattle.replay.specs.PlanLine.{planAsks, planStores}
-use Rattle.replay.proofs.Buffers.{confirms, bytes-told}
+use Rattle.replay.proofs.Buffers.{confirms, bytes-told, put-within, put-length}
 use borrow.Author.Needs.{needs}
 use Rattle.replay.proofs.walk.compared.Statement.{statement}
 use Rattle.replay.proofs.walk.compared.Tie as tie
@@ -69,15 +67,13 @@ returns-2 c = search needs
 
 slice-reshare-prefix-called : tie.Need-slice-reshare-prefix-called
 slice-reshare-prefix-called c =
-    let a = c .before .before .before .before .before .before .before .before .before .before .before in
-    let put = a .before .before .before .before in
-    subst (λ (h : Held). Within h (length (put .bytes-of .last .1 .0))) (a .a .given .1) (put .bytes-of .ensures .1)
+    let put = c .before .before .before .before .before .before .before .before .before .before .before .before .before .before .before .bytes-of in
+    put-within (c .before .before .before .before .before .before .before .before .before .before .before .a .given .1) (length (put .last .1 .0)) (put .ensures .1)
 
 slice-aggregate-called : tie.Need-slice-aggregate-called
 slice-aggregate-called c =
-    let a = c .before .before .before .before .before .before .before .before .before .before .before .before in
-    let put = a .before .before .before .before in
-    sym (length-take-le _ (put .bytes-of .last .1 .0) (subst (λ (h : Held). Within h (length (put .bytes-of .last .1 .0))) (a .a .given .1) (put .bytes-of .ensures .1)))
+    let put = c .before .before .before .before .before .before .before .before .before .before .before .before .before .before .before .before .bytes-of in
+    put-length (c .before .before .before .before .before .before .before .before .before .before .before .before .a .given .1) (put .last .1 .0) (put .ensures .1)
 
 called-requires : tie.Need-called-requires
 called-requires c κs = search needs
