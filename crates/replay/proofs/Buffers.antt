@@ -1,4 +1,4 @@
--- Laws of what a line's fields tell: numbers, bytes at the start of a buffer, sheets in slots; and of a part of a filled buffer.
+-- Laws of what a line's fields tell: bytes at the start of a buffer, sheets in slots; and of a part of a filled buffer.
 -- Assumes nothing.
 use Prim.Native.Nat.{ℕ, zero, suc, _+_, _-_, _*_, _≤_}
 use mathlib.Core.Path.{_≡_, refl, sym, ap, subst, _∙_}
@@ -13,9 +13,7 @@ use borrow.Rule.Slice.PartMut.{putMid}
 use Rattle.transforms.specs.Single as Single
 use Rattle.plan.proofs.Parts.{part-lent, part-back}
 use Rattle.lines.specs.Fields.{fieldOf}
-use Rattle.lines.specs.Digits.{numberOf}
 use Rattle.lines.specs.Bytes.{fieldBytes, Puts, Within}
-use Rattle.lines.specs.declared.Number.{Number}
 use Rattle.lines.specs.declared.Held.{Held}
 use Rattle.lines.specs.declared.Held.the-variants as H
 use Rattle.replay.specs.Texts.{filled}
@@ -34,10 +32,6 @@ take-filled (suc n) (suc m) h = ap (λ (l : List ℕ). 165 ∷ l) (take-filled n
 
 pub part-filled : (n m : ℕ) {r : List ℕ} → n ≤ m → r ≡ filled m → filled n ≡ take n r
 part-filled n m h e = sym (ap (take n) e ∙ take-filled n m h)
-
--- a field's number
-pub number-told : {t s : List ℕ} {x y : Number} → t ≡ s → x ≡ numberOf t → x ≡ y → numberOf s ≡ y
-number-told f e g = ap numberOf (sym f) ∙ sym e ∙ g
 
 -- a field's bytes, which were put at the start of a buffer
 module _ {t s : List ℕ} (f : t ≡ s) (d d′ : List ℕ) {h : Held} {n : ℕ} (e : h ≡ H.Len n) (p : Puts h (fieldBytes t) d d′) where

@@ -1,24 +1,11 @@
 -- A line of the list of calls, `component node left right out_len code result mark`: the call that it asks for, and the answer that it stores.
 use Prim.Native.Nat.{ℕ}
-use mathlib.Core.Path.{_≡_}
 use mathlib.Core.Option.{Option, some, bind}
 use mathlib.Core.List.{List, _++_}
 use lib.ListN.{length, drop}
 use Rattle.base.specs.Form.{narrow}
 use Rattle.transforms.specs.Single.{Outcome, outcome, single}
-use Rattle.lines.specs.declared.Number.the-variants as N
 use Rattle.replay.specs.Texts.{numberAt, bytesAt, withNumber, filled}
-use Rattle.replay.specs.declared.single.Parsed.{Parsed}
-use Rattle.replay.specs.declared.single.Parsed.the-variants as P
-
--- the numbers of a line
-abbrev pub CallTold : Parsed → List ℕ → Type 0
-CallTold (P.Is call) line =
-    (numberAt 0 line ≡ N.Is (call .component))
-    × (numberAt 1 line ≡ N.Is (call .node))
-    × (numberAt 4 line ≡ N.Is (call .«out_len»))
-    × (numberAt 5 line ≡ N.Is (call .code))
-CallTold P.Not line = Unit {0}
 
 -- what the definition gives on an output, and what the line has it hold afterwards: the result, with later bytes as they were
 unfoldable pub callAsks : List ℕ → ℕ → ℕ → List ℕ → Option Outcome

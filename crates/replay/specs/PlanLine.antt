@@ -1,22 +1,12 @@
 -- A line of the list of plans, `plan work_len leaves code value result`: the plan call that it asks for, and the answer that it stores.
 use Prim.Native.Nat.{ℕ}
-use mathlib.Core.Path.{_≡_}
 use mathlib.Core.Option.{Option, some, bind}
 use mathlib.Core.List.{List}
 use Rattle.base.specs.Form.{narrow}
 use Rattle.transforms.specs.Single.{Outcome, outcome}
 use Rattle.plan.specs.Walk as Walk
-use Rattle.lines.specs.declared.Number.the-variants as N
 use Rattle.replay.specs.Texts.{numberAt, bytesAt, withNumber, filled}
 use Rattle.replay.specs.Sheets.{laid, leavesOf, laidOut}
-use Rattle.replay.specs.declared.walk.Parsed.{Parsed}
-use Rattle.replay.specs.declared.walk.Parsed.the-variants as P
-
--- the numbers of a line
-abbrev pub PlanTold : Parsed → List ℕ → Type 0
-PlanTold (P.Is call) line =
-    (numberAt 1 line ≡ N.Is (call .«work_len»)) × (numberAt 3 line ≡ N.Is (call .code)) × (numberAt 4 line ≡ N.Is (call .value))
-PlanTold P.Not line = Unit {0}
 
 -- what the definition gives on a work buffer with the leaves laid out, and what the line has it hold afterwards: the derived sheets too
 unfoldable pub planAsks : List ℕ → List ℕ → Option Outcome

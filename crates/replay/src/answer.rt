@@ -10,9 +10,11 @@ ghost use Rattle.plan.specs.Form.{nodeLimit};
 ghost use Rattle.plan.specs.Walk as Walk;
 ghost use Rattle.gate.specs.Reply.{replied};
 ghost use Rattle.replay.specs.Texts as Texts;
+ghost use Rattle.replay.specs.Texts.{numberAt};
 ghost use Rattle.replay.specs.Answers.{Confirms};
 use crate::tally::Outcome;
 use crate::tally::Said;
+use lines::Number;
 
 // The most bytes of a buffer that a line may ask for: what the most nodes take, as the list's largest work buffer does.
 pub const ROOM: usize = plan::form::NODE_LIMIT * plan::SLOT;
@@ -22,6 +24,13 @@ const FILL: u8 = 165;
 
 // What the value in a reply is multiplied by.
 const VALUE_UNIT: u64 = 4294967296;
+
+// A field's number.
+pub fn number_at(line: &[u8], k: usize) -> Number
+    ensures { λ r. ⌜ r ≡ numberAt k (now (line .entry)) ⌝ }
+{
+    lines::decimal(lines::field(line, k))
+}
 
 // The length stands beside, since lending a part needs it.
 pub fn filled() -> [u8; ROOM]

@@ -1,10 +1,7 @@
 // A line `component node left right out_len code result mark`, and the call that it asks for.
-ghost use mathlib.Core.Option.{some};
-ghost use Rattle.base.specs.Form.{narrow};
-ghost use Rattle.transforms.specs.Single.{single, outcome};
 ghost use Rattle.replay.specs.Texts.{filled};
 ghost use Rattle.replay.specs.Answers.{Confirms};
-ghost use Rattle.replay.specs.CallLine.{CallTold, callAsks, callStores, callDefined, callStored};
+ghost use Rattle.replay.specs.CallLine.{callAsks, callStores, callDefined, callStored};
 use crate::answer;
 use crate::tally::Outcome;
 use crate::tally::Said;
@@ -25,11 +22,6 @@ struct Call {
     code: u32,
 }
 
-enum Parsed {
-    Is(Call),
-    Not,
-}
-
 fn is_mark(s: &[u8]) -> bool {
     if check::same(s, b"rust") {
         return true;
@@ -40,53 +32,8 @@ fn is_mark(s: &[u8]) -> bool {
     check::same(s, b"decided")
 }
 
-fn call_of(line: &[u8]) -> Parsed
-    ensures { λ r. ⌜ CallTold r (now (line .entry)) ⌝ }
-{
-    let a = lines::decimal(lines::field(line, 0));
-    let Number::Is(component) = a else {
-        return Parsed::Not;
-    };
-    let b = lines::decimal(lines::field(line, 1));
-    let Number::Is(node) = b else {
-        return Parsed::Not;
-    };
-    let c = lines::decimal(lines::field(line, 4));
-    let Number::Is(out_len) = c else {
-        return Parsed::Not;
-    };
-    let d = lines::decimal(lines::field(line, 5));
-    let Number::Is(code) = d else {
-        return Parsed::Not;
-    };
-    Parsed::Is(Call {
-        component,
-        node,
-        out_len: out_len as usize,
-        code,
-    })
-}
-
-// Makes the call, and compares. Where they agree, the list has what the definition of the single call gives.
-fn called(
-    call: Call,
-    left: &[u8],
-    right: &[u8],
-    len: usize,
-    out: &mut [u8],
-    expected: &[u8],
-) -> Outcome
-    ensures { λ r. ⌜ Confirms r (some (single narrow (call .component) (call .node) (now (left .entry)) (now (right .entry)) (now (out .entry)))) (some (outcome (call .code) len (now (expected .entry)))) ⌝ }
-{
-    let reply = gate::propagate_property(call.component, call.node, left, right, out);
-    let said = Said {
-        component: call.component,
-        told: Told::of_call(call.code),
-    };
-    answer::compared(said, reply, out, call.code, len as u64, expected)
-}
-
-// Reads the operands and the result. Result and output stand in equally filled buffers, so that what follows the result has to be as it was.
+// Reads the operands and the result, makes the call, and compares. Result and output stand in equally filled buffers, so that what follows the result
+// has to be as it was.
 fn compared(
     line: &[u8],
     call: Call,
@@ -109,7 +56,12 @@ fn compared(
     let Held::Len(len) = c else {
         return Outcome::Unread;
     };
-    called(call, &left[..l], &right[..r], len, out, expected)
+    let reply = gate::propagate_property(call.component, call.node, &left[..l], &right[..r], out);
+    let said = Said {
+        component: call.component,
+        told: Told::of_call(call.code),
+    };
+    answer::compared(said, reply, out, call.code, len as u64, expected)
 }
 
 fn replayed(line: &[u8], call: Call) -> Outcome
@@ -142,9 +94,27 @@ pub fn judged(line: &[u8]) -> Outcome
     if !is_mark(lines::field(line, 7)) {
         return Outcome::Unread;
     }
-    let read = call_of(line);
-    let Parsed::Is(call) = read else {
+    let a = answer::number_at(line, 0);
+    let Number::Is(component) = a else {
         return Outcome::Unread;
+    };
+    let b = answer::number_at(line, 1);
+    let Number::Is(node) = b else {
+        return Outcome::Unread;
+    };
+    let c = answer::number_at(line, 4);
+    let Number::Is(out_len) = c else {
+        return Outcome::Unread;
+    };
+    let d = answer::number_at(line, 5);
+    let Number::Is(code) = d else {
+        return Outcome::Unread;
+    };
+    let call = Call {
+        component,
+        node,
+        out_len: out_len as usize,
+        code,
     };
     replayed(line, call)
 }

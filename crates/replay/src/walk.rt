@@ -3,14 +3,11 @@ ghost use mathlib.Core.Path.{_≡_};
 ghost use mathlib.Core.Bool.{true};
 ghost use mathlib.Core.Option.{some};
 ghost use Prim.Native.Nat.{_<_};
-ghost use Rattle.base.specs.Form.{narrow};
-ghost use Rattle.transforms.specs.Single.{outcome};
 ghost use Rattle.plan.specs.Form.{nodeLimit};
-ghost use Rattle.plan.specs.Walk as Walk;
 ghost use Rattle.replay.specs.Sheets.{placed, Lays, LaidOut};
 ghost use Rattle.replay.specs.Texts.{filled};
 ghost use Rattle.replay.specs.Answers.{Confirms};
-ghost use Rattle.replay.specs.PlanLine.{PlanTold, planAsks, planStores, planDefined, planStored};
+ghost use Rattle.replay.specs.PlanLine.{planAsks, planStores, planDefined, planStored};
 use crate::answer;
 use crate::tally::Outcome;
 use crate::tally::Said;
@@ -31,33 +28,6 @@ struct Call {
     work_len: usize,
     code: u32,
     value: u32,
-}
-
-enum Parsed {
-    Is(Call),
-    Not,
-}
-
-fn call_of(line: &[u8]) -> Parsed
-    ensures { λ r. ⌜ PlanTold r (now (line .entry)) ⌝ }
-{
-    let a = lines::decimal(lines::field(line, 1));
-    let Number::Is(work_len) = a else {
-        return Parsed::Not;
-    };
-    let b = lines::decimal(lines::field(line, 3));
-    let Number::Is(code) = b else {
-        return Parsed::Not;
-    };
-    let c = lines::decimal(lines::field(line, 4));
-    let Number::Is(value) = c else {
-        return Parsed::Not;
-    };
-    Parsed::Is(Call {
-        work_len: work_len as usize,
-        code,
-        value,
-    })
 }
 
 // Puts the bytes of a text at the start of slot k; false where it is no text of bytes, or they have no place in the slot.
@@ -119,19 +89,7 @@ fn laid_out(line: &[u8], work: &mut [u8], expected: &mut [u8]) -> Held
     Held::Len(k)
 }
 
-// Makes the call, and compares. Where they agree, the list has what the definition of the plan call gives.
-fn called(call: Call, leaves: usize, plan: &[u8], work: &mut [u8], expected: &[u8]) -> Outcome
-    ensures { λ r. ⌜ Confirms r (some (Walk.plan narrow (now (plan .entry)) (now (work .entry)))) (some (outcome (call .code) (call .value) (now (expected .entry)))) ⌝ }
-{
-    let reply = gate::propagate_properties(plan, work);
-    let said = Said {
-        component: 0,
-        told: Told::of_plan(call.code, call.value, leaves),
-    };
-    answer::compared(said, reply, work, call.code, call.value as u64, expected)
-}
-
-// Reads the plan, lays out the buffers, and goes on to the call.
+// Reads the plan, lays out the buffers, makes the call, and compares.
 fn compared(
     line: &[u8],
     call: Call,
@@ -149,7 +107,12 @@ fn compared(
     let Held::Len(leaves) = b else {
         return Outcome::Unread;
     };
-    called(call, leaves, &plan[..n], work, expected)
+    let reply = gate::propagate_properties(&plan[..n], work);
+    let said = Said {
+        component: 0,
+        told: Told::of_plan(call.code, call.value, leaves),
+    };
+    answer::compared(said, reply, work, call.code, call.value as u64, expected)
 }
 
 fn replayed(line: &[u8], call: Call) -> Outcome
@@ -171,9 +134,22 @@ pub fn judged(line: &[u8]) -> Outcome
     if lines::fields(line) != FIELDS {
         return Outcome::Unread;
     }
-    let read = call_of(line);
-    let Parsed::Is(call) = read else {
+    let a = answer::number_at(line, 1);
+    let Number::Is(work_len) = a else {
         return Outcome::Unread;
+    };
+    let b = answer::number_at(line, 3);
+    let Number::Is(code) = b else {
+        return Outcome::Unread;
+    };
+    let c = answer::number_at(line, 4);
+    let Number::Is(value) = c else {
+        return Outcome::Unread;
+    };
+    let call = Call {
+        work_len: work_len as usize,
+        code,
+        value,
     };
     replayed(line, call)
 }

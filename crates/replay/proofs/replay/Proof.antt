@@ -1,6 +1,6 @@
 -- `replay::replay` is safe and ends. The loop's invariant: the window stands in the buffer. The measure is the number of turns that are left.
 -- Assumes nothing.
-use mathlib.Core.Path.{_≡_, refl, subst, _∙_}
+use mathlib.Core.Path.{_≡_, subst, _∙_}
 use lib.ListN.{length}
 use Rattle.lines.specs.declared.Line.{Line}
 use Rattle.lines.specs.Window.{Open, Inside}

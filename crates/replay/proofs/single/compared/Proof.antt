@@ -1,16 +1,16 @@
--- `replay::single::compared` meets its contract: what `bytes_of` put is what the fields tell, within the buffers.
+-- `replay::single::compared` meets its contract: what `bytes_of` put is what the fields tell, within the buffers, and the gate answers as defined.
 -- Assumes nothing.
-use mathlib.Core.Path.{_≡_}
-use lib.ListN.{length}
-use Rattle.lines.specs.declared.Held.{Held}
-use Rattle.lines.specs.Bytes.{Puts, fieldBytes}
 use Prim.Native.Nat.{ℕ}
-use mathlib.Core.Option.{some, bind}
+use mathlib.Core.Path.{_≡_, sym, ap, _∙_}
+use mathlib.Core.Option.{Option, some, bind}
 use mathlib.Core.List.{List}
+use lib.ListN.{length}
 use denote.Ref.{now}
 use Rattle.base.specs.Form.{narrow}
-use Rattle.transforms.specs.Single.{outcome, single}
+use Rattle.transforms.specs.Single.{Outcome, outcome, single}
 use Rattle.lines.specs.Fields.{fieldOf}
+use Rattle.lines.specs.Bytes.{Puts, fieldBytes}
+use Rattle.lines.specs.declared.Held.{Held}
 use Rattle.lines.specs.declared.Held.the-variants as H
 use Rattle.replay.specs.Texts.{bytesAt}
 use Rattle.replay.specs.CallLine.{callAsks, callStores}
@@ -90,31 +90,37 @@ same-length-6 c = search needs
 returns-3 : tie.Need-returns-3
 returns-3 c = search needs
 
-slice-reshare-prefix-called : tie.Need-slice-reshare-prefix-called
-slice-reshare-prefix-called c =
+slice-reshare-prefix-propagate-property : tie.Need-slice-reshare-prefix-propagate-property
+slice-reshare-prefix-propagate-property c =
     let put = c .before .before .before .before .before .before .before .before .before .before .before .before .before .before .before .before .before .before .before .before .before .bytes-of in
     put-within (c .before .before .before .before .before .before .before .before .before .before .before .before .before .before .before .before .before .a .given .1) (length (put .last .1 .0)) (put .ensures .1)
 
-slice-aggregate-called : tie.Need-slice-aggregate-called
-slice-aggregate-called c =
+slice-aggregate-propagate-property : tie.Need-slice-aggregate-propagate-property
+slice-aggregate-propagate-property c =
     let put = c .before .before .before .before .before .before .before .before .before .before .before .before .before .before .before .before .before .before .before .before .before .before .bytes-of in
     put-length (c .before .before .before .before .before .before .before .before .before .before .before .before .before .before .before .before .before .before .a .given .1) (put .last .1 .0) (put .ensures .1)
 
-slice-reshare-prefix-called-2 : tie.Need-slice-reshare-prefix-called-2
-slice-reshare-prefix-called-2 c =
+slice-reshare-prefix-propagate-property-2 : tie.Need-slice-reshare-prefix-propagate-property-2
+slice-reshare-prefix-propagate-property-2 c =
     let put = c .before .before .before .before .before .before .before .before .before .before .before .before .before .before .bytes-of2 in
     put-within (c .before .before .before .before .before .before .before .before .before .before .b .given .1) (length (put .last .1 .0)) (put .ensures .1)
 
-slice-aggregate-called-2 : tie.Need-slice-aggregate-called-2
-slice-aggregate-called-2 c =
+slice-aggregate-propagate-property-2 : tie.Need-slice-aggregate-propagate-property-2
+slice-aggregate-propagate-property-2 c =
     let put = c .before .before .before .before .before .before .before .before .before .before .before .before .before .before .before .bytes-of2 in
     put-length (c .before .before .before .before .before .before .before .before .before .before .before .b .given .1) (put .last .1 .0) (put .ensures .1)
 
-called-requires : tie.Need-called-requires
-called-requires c κs = search needs
+propagate-property-requires : tie.Need-propagate-property-requires
+propagate-property-requires c κs = search needs
+
+of-call-requires : tie.Need-of-call-requires
+of-call-requires c κs = search needs
+
+compared-requires : tie.Need-compared-requires
+compared-requires c κs = search needs
 
 same-length-7 : tie.Need-same-length-7
-same-length-7 c = search needs
+same-length-7 c = c .before .before .before .before .before .before .before .before .before .before .before .before .before .before .before .before .before .before .before .before .before .before .before .before .before .before .before .before .before .before .before .bytes-of .kept .1 .0
 
 same-length-8 : tie.Need-same-length-8
 same-length-8 c = search needs
@@ -127,15 +133,15 @@ same-length-10 c = search needs
 
 returns-4 : tie.Need-returns-4
 returns-4 c =
-    let a = c .before .before .before .before .before .before .before .before .before .before .before .before .before .before .before .before .before .before .before .before .before .before .before .before .before .before .before .before .before .before .before .before .before .before .before .before .args in
+    let a = c .before .before .before .before .before .before .before .before .before .before .before .before .before .before .before .before .before .before .before .before .before .before .before .before .before .before .before .before .before .before .before .before .before .before .before .before .before .before .before .args in
     let line = now (a .line) in
-    let left = c .before .before .before .before .before .before .before .before .before .before .before .before .before .before .before .before .before .before .before .before .before .before .before .before .before .before .before .before in
-    let right = c .before .before .before .before .before .before .before .before .before .before .before .before .before .before .before .before .before .before .before .before in
-    let result = c .before .before .before .before .before .before .before .before .before .before .before .before in
-    let l = bytes-told (left .before .before .field .ensures) (now (a .left)) (left .bytes-of .last .1 .0) (c .before .before .before .before .before .before .before .before .before .before .before .before .before .before .before .before .before .before .before .before .before .before .before .before .a .given .1) (left .bytes-of .ensures .0) in
-    let r = bytes-told (right .before .before .field2 .ensures) (now (a .right)) (right .bytes-of2 .last .1 .0) (c .before .before .before .before .before .before .before .before .before .before .before .before .before .before .before .before .b .given .1) (right .bytes-of2 .ensures .0) in
-    let made = c .before .before .called in
-    confirms (made .result) (asked line _ _ _ l r) (stored line (result .before .before .field3 .ensures) (now (a .expected)) (result .bytes-of3 .last .1 .0) (c .before .before .before .before .before .before .before .before .c .given .1) (result .bytes-of3 .ensures .0) (a .call .code)) (made .ensures)
+    let left = c .before .before .before .before .before .before .before .before .before .before .before .before .before .before .before .before .before .before .before .before .before .before .before .before .before .before .before .before .before .before .before in
+    let right = c .before .before .before .before .before .before .before .before .before .before .before .before .before .before .before .before .before .before .before .before .before .before .before in
+    let result = c .before .before .before .before .before .before .before .before .before .before .before .before .before .before .before in
+    let l = bytes-told (left .before .before .field .ensures) (now (a .left)) (left .bytes-of .last .1 .0) (c .before .before .before .before .before .before .before .before .before .before .before .before .before .before .before .before .before .before .before .before .before .before .before .before .before .before .before .a .given .1) (left .bytes-of .ensures .0) in
+    let r = bytes-told (right .before .before .field2 .ensures) (now (a .right)) (right .bytes-of2 .last .1 .0) (c .before .before .before .before .before .before .before .before .before .before .before .before .before .before .before .before .before .before .before .b .given .1) (right .bytes-of2 .ensures .0) in
+    let made = c .compared in
+    confirms (made .result) (asked line _ _ _ l r ∙ ap {B = Option Outcome} some (sym (c .before .before .before .before .before .before .propagate-property .ensures))) (stored line (result .before .before .field3 .ensures) (now (a .expected)) (result .bytes-of3 .last .1 .0) (c .before .before .before .before .before .before .before .before .before .before .before .c .given .1) (result .bytes-of3 .ensures .0) (a .call .code)) (made .ensures)
 
 pub compared-spec : {M : Type 1} → statement M
 compared-spec =
@@ -162,11 +168,13 @@ compared-spec =
     same-length-5
     same-length-6
     returns-3
-    slice-reshare-prefix-called
-    slice-aggregate-called
-    slice-reshare-prefix-called-2
-    slice-aggregate-called-2
-    called-requires
+    slice-reshare-prefix-propagate-property
+    slice-aggregate-propagate-property
+    slice-reshare-prefix-propagate-property-2
+    slice-aggregate-propagate-property-2
+    propagate-property-requires
+    of-call-requires
+    compared-requires
     same-length-7
     same-length-8
     same-length-9

@@ -1,15 +1,15 @@
--- `replay::walk::compared` meets its contract: what `bytes_of` put is what the field tells, within the buffer.
+-- `replay::walk::compared` meets its contract: what `bytes_of` put is what the field tells, within the buffer, and the gate answers as defined.
 -- Assumes nothing.
-use mathlib.Core.Path.{_≡_, subst}
-use lib.ListN.{length}
-use Rattle.lines.specs.declared.Held.{Held}
 use Prim.Native.Nat.{ℕ}
-use mathlib.Core.Option.{some, bind}
+use mathlib.Core.Path.{_≡_, sym, ap, subst, _∙_}
+use mathlib.Core.Option.{Option, some, bind}
 use mathlib.Core.List.{List}
+use lib.ListN.{length}
 use denote.Ref.{now}
 use Rattle.base.specs.Form.{narrow}
-use Rattle.transforms.specs.Single.{outcome}
+use Rattle.transforms.specs.Single.{Outcome, outcome}
 use Rattle.plan.specs.Walk as Walk
+use Rattle.lines.specs.declared.Held.{Held}
 use Rattle.replay.specs.Texts.{bytesAt}
 use Rattle.replay.specs.Sheets.{laid, leavesOf, laidOut, LaidOut}
 use Rattle.replay.specs.PlanLine.{planAsks, planStores}
@@ -65,18 +65,27 @@ same-length-4 c = search needs
 returns-2 : tie.Need-returns-2
 returns-2 c = search needs
 
-slice-reshare-prefix-called : tie.Need-slice-reshare-prefix-called
-slice-reshare-prefix-called c =
+slice-reshare-prefix-propagate-properties : tie.Need-slice-reshare-prefix-propagate-properties
+slice-reshare-prefix-propagate-properties c =
     let put = c .before .before .before .before .before .before .before .before .before .before .before .before .before .before .before .bytes-of in
     put-within (c .before .before .before .before .before .before .before .before .before .before .before .a .given .1) (length (put .last .1 .0)) (put .ensures .1)
 
-slice-aggregate-called : tie.Need-slice-aggregate-called
-slice-aggregate-called c =
+slice-aggregate-propagate-properties : tie.Need-slice-aggregate-propagate-properties
+slice-aggregate-propagate-properties c =
     let put = c .before .before .before .before .before .before .before .before .before .before .before .before .before .before .before .before .bytes-of in
     put-length (c .before .before .before .before .before .before .before .before .before .before .before .before .a .given .1) (put .last .1 .0) (put .ensures .1)
 
-called-requires : tie.Need-called-requires
-called-requires c κs = search needs
+propagate-properties-requires : tie.Need-propagate-properties-requires
+propagate-properties-requires c κs = search needs
+
+of-plan-requires : tie.Need-of-plan-requires
+of-plan-requires c κs = search needs
+
+cast-compared : tie.Need-cast-compared
+cast-compared c = search needs
+
+compared-requires : tie.Need-compared-requires
+compared-requires c κs = search needs
 
 same-length-5 : tie.Need-same-length-5
 same-length-5 c = search needs
@@ -89,14 +98,14 @@ same-length-7 c = search needs
 
 returns-3 : tie.Need-returns-3
 returns-3 c =
-    let a = c .before .before .before .before .before .before .before .before .before .before .before .before .before .before .before .before .before .before .before .before .before .before .before .before .before .before .before .before .args in
+    let a = c .before .before .before .before .before .before .before .before .before .before .before .before .before .before .before .before .before .before .before .before .before .before .before .before .before .before .before .before .before .before .before .before .args in
     let line = now (a .line) in
-    let put = c .before .before .before .before .before .before .before .before .before .before .before .before .before .before .before .before .before .before .before .before .before in
-    let p = bytes-told (put .before .before .field .ensures) (now (a .plan)) (put .bytes-of .last .1 .0) (c .before .before .before .before .before .before .before .before .before .before .before .before .before .before .before .before .before .a .given .1) (put .bytes-of .ensures .0) in
-    let lay = c .before .before .before .before .before .before .before .before .before .before .before .before .before .laid-out in
-    let out = subst (λ (h : Held). LaidOut h line (now (a .work)) (lay .last .1 .0) (now (a .expected)) (lay .last .1 .1 .0)) (c .before .before .before .before .before .before .before .b .given .1) (lay .ensures) in
-    let made = c .before .before .called in
-    confirms (made .result) (asked line (now (a .work)) p (out .1)) (stored line (a .call .code) (a .call .value) (now (a .expected)) (out .2)) (made .ensures)
+    let put = c .before .before .before .before .before .before .before .before .before .before .before .before .before .before .before .before .before .before .before .before .before .before .before .before .before in
+    let p = bytes-told (put .before .before .field .ensures) (now (a .plan)) (put .bytes-of .last .1 .0) (c .before .before .before .before .before .before .before .before .before .before .before .before .before .before .before .before .before .before .before .before .before .a .given .1) (put .bytes-of .ensures .0) in
+    let lay = c .before .before .before .before .before .before .before .before .before .before .before .before .before .before .before .before .before .laid-out in
+    let out = subst (λ (h : Held). LaidOut h line (now (a .work)) (lay .last .1 .0) (now (a .expected)) (lay .last .1 .1 .0)) (c .before .before .before .before .before .before .before .before .before .before .before .b .given .1) (lay .ensures) in
+    let made = c .compared in
+    confirms (made .result) (asked line (now (a .work)) p (out .1) ∙ ap {B = Option Outcome} some (sym (c .before .before .before .before .before .before .before .propagate-properties .ensures .0))) (stored line (a .call .code) (a .call .value) (now (a .expected)) (out .2)) (made .ensures)
 
 pub compared-spec : {M : Type 1} → statement M
 compared-spec =
@@ -115,9 +124,12 @@ compared-spec =
     same-length-3
     same-length-4
     returns-2
-    slice-reshare-prefix-called
-    slice-aggregate-called
-    called-requires
+    slice-reshare-prefix-propagate-properties
+    slice-aggregate-propagate-properties
+    propagate-properties-requires
+    of-plan-requires
+    cast-compared
+    compared-requires
     same-length-5
     same-length-6
     same-length-7

@@ -1,26 +1,24 @@
 -- `replay::walk::judged` meets its contract: the line's numbers are told.
 -- Assumes nothing.
 use Prim.Native.Nat.{ℕ}
-use mathlib.Core.Path.{_≡_, subst}
+use mathlib.Core.Path.{_≡_, sym, _∙_}
 use mathlib.Core.List.{List}
 use denote.Ref.{now}
 use Rattle.lines.specs.declared.Number.the-variants as N
 use Rattle.replay.specs.Texts.{numberAt, withNumber, filled}
-use Rattle.replay.specs.PlanLine.{PlanTold, planAsks, planStores, planDefined, planStored}
-use Rattle.replay.specs.declared.walk.Parsed.{Parsed}
+use Rattle.replay.specs.PlanLine.{planAsks, planStores, planDefined, planStored}
 use Rattle.replay.proofs.Buffers.{confirms}
 use borrow.Author.Needs.{needs}
 use Rattle.replay.proofs.walk.judged.Statement.{statement}
 use Rattle.replay.proofs.walk.judged.Tie as tie
 
-module _ (line : List ℕ) {n code value : ℕ} (a : numberAt 1 line ≡ N.Is n) (b : numberAt 3 line ≡ N.Is code) (d : numberAt 4 line ≡ N.Is value) where
-  is-defined : planDefined line ≡ planAsks line (filled n)
-  unfolding planDefined withNumber
-  is-defined = rw a
+is-defined : (line : List ℕ) {n : ℕ} → numberAt 1 line ≡ N.Is n → planDefined line ≡ planAsks line (filled n)
+unfolding planDefined withNumber
+is-defined line a = rw a
 
-  is-stored : planStored line ≡ planStores line code value (filled n)
-  unfolding planStored withNumber
-  is-stored = rw (a, b, d)
+is-stored : (line : List ℕ) {n code value : ℕ} → numberAt 1 line ≡ N.Is n → numberAt 3 line ≡ N.Is code → numberAt 4 line ≡ N.Is value → planStored line ≡ planStores line code value (filled n)
+unfolding planStored withNumber
+is-stored line a b d = rw (a, b, d)
 
 fields-requires : tie.Need-fields-requires
 fields-requires c κs = search needs
@@ -28,11 +26,11 @@ fields-requires c κs = search needs
 returns : tie.Need-returns
 returns c = search needs
 
-call-of-requires : tie.Need-call-of-requires
-call-of-requires c κs = search needs
+number-at-requires : tie.Need-number-at-requires
+number-at-requires c κs = search needs
 
-enum-known-read : tie.Need-enum-known-read
-enum-known-read c = search needs
+enum-known-a : tie.Need-enum-known-a
+enum-known-a c = search needs
 
 enum-told : tie.Need-enum-told
 enum-told c = search needs
@@ -40,14 +38,43 @@ enum-told c = search needs
 returns-2 : tie.Need-returns-2
 returns-2 c = search needs
 
+number-at-requires-2 : tie.Need-number-at-requires-2
+number-at-requires-2 c κs = search needs
+
+enum-known-b : tie.Need-enum-known-b
+enum-known-b c = search needs
+
+enum-told-2 : tie.Need-enum-told-2
+enum-told-2 c = search needs
+
+returns-3 : tie.Need-returns-3
+returns-3 c = search needs
+
+number-at-requires-3 : tie.Need-number-at-requires-3
+number-at-requires-3 c κs = search needs
+
+enum-known-c : tie.Need-enum-known-c
+enum-known-c c = search needs
+
+enum-told-3 : tie.Need-enum-told-3
+enum-told-3 c = search needs
+
+returns-4 : tie.Need-returns-4
+returns-4 c = search needs
+
+cast-t9 : tie.Need-cast-t9
+cast-t9 c = search needs
+
 replayed-requires : tie.Need-replayed-requires
 replayed-requires c κs = search needs
 
-returns-3 : tie.Need-returns-3
-returns-3 c =
-    let line = now (c .before .before .before .before .before .before .before .before .args .line) in
-    let t = subst (λ (p : Parsed). PlanTold p line) (c .before .before .read .given .1) (c .before .before .before .before .call-of .ensures) in
-    confirms (c .replayed .result) (is-defined line (t .0) (t .1) (t .2)) (is-stored line (t .0) (t .1) (t .2)) (c .replayed .ensures)
+returns-5 : tie.Need-returns-5
+returns-5 c =
+    let line = now (c .before .before .before .before .before .before .before .before .before .before .before .before .before .before .before .before .args .line) in
+    let n = sym (c .before .before .before .before .before .before .before .before .before .before .before .before .number-at .ensures) ∙ c .before .before .before .before .before .before .before .before .before .before .a .given .1 in
+    let code = sym (c .before .before .before .before .before .before .before .before .number-at2 .ensures) ∙ c .before .before .before .before .before .before .b .given .1 in
+    let value = sym (c .before .before .before .before .number-at3 .ensures) ∙ c .before .before .c .given .1 in
+    confirms (c .replayed .result) (is-defined line n) (is-stored line n code value) (c .replayed .ensures)
 
 pub judged-spec : {M : Type 1} → statement M
 judged-spec =
@@ -55,9 +82,18 @@ judged-spec =
     (tie.spec
     fields-requires
     returns
-    call-of-requires
-    enum-known-read
+    number-at-requires
+    enum-known-a
     enum-told
     returns-2
+    number-at-requires-2
+    enum-known-b
+    enum-told-2
+    returns-3
+    number-at-requires-3
+    enum-known-c
+    enum-told-3
+    returns-4
+    cast-t9
     replayed-requires
-    returns-3)
+    returns-5)

@@ -1,6 +1,6 @@
 -- `replay::walk::put_sheets` meets its contract. The loop's invariant: laying the sheets that are left, from slot k on, lays all. The measure is the number of slots that are left.
 -- Assumes nothing.
-use Prim.Native.Nat.{ℕ, _+_, _-_, _≤_}
+use Prim.Native.Nat.{_+_, _-_, _≤_}
 use mathlib.Core.Path.{_≡_, refl, sym, ap, _∙_}
 use native.Mathlib.Nat.{add-zero}
 use denote.Ref.{now}

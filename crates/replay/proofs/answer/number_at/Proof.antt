@@ -1,0 +1,24 @@
+-- `replay::answer::number_at` meets its contract: the field is `field`'s, the number `decimal`'s.
+-- Assumes nothing.
+use mathlib.Core.Path.{ap, _∙_}
+use Rattle.lines.specs.Digits.{numberOf}
+use borrow.Author.Needs.{needs}
+use Rattle.replay.proofs.answer.number_at.Statement.{statement}
+use Rattle.replay.proofs.answer.number_at.Tie as tie
+
+field-requires : tie.Need-field-requires
+field-requires c κs = search needs
+
+decimal-requires : tie.Need-decimal-requires
+decimal-requires c κs = search needs
+
+returns : tie.Need-returns
+returns c = c .decimal .ensures ∙ ap numberOf (c .before .field .ensures)
+
+pub number-at-spec : {M : Type 1} → statement M
+number-at-spec =
+    tie.close
+    (tie.spec
+    field-requires
+    decimal-requires
+    returns)
