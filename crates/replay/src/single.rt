@@ -1,5 +1,4 @@
 // A line `component node left right out_len code result mark`, and the call that it asks for.
-ghost use Rattle.replay.specs.Texts.{filled};
 ghost use Rattle.replay.specs.Answers.{Confirms};
 ghost use Rattle.replay.specs.CallLine.{callAsks, callStores, callDefined, callStored};
 use crate::answer;
@@ -14,11 +13,10 @@ const ROOM: usize = 2048;
 
 const FIELDS: usize = 8;
 
-// The numbers of a line.
+// The numbers of a line, but for the output's length.
 struct Call {
     component: u32,
     node: u32,
-    out_len: usize,
     code: u32,
 }
 
@@ -30,6 +28,13 @@ fn is_mark(s: &[u8]) -> bool {
         return true;
     }
     check::same(s, b"decided")
+}
+
+fn in_form(line: &[u8]) -> bool {
+    if lines::fields(line) != FIELDS {
+        return false;
+    }
+    is_mark(lines::field(line, 7))
 }
 
 // Reads the operands and the result, makes the call, and compares. Result and output stand in equally filled buffers, so that what follows the result
@@ -64,34 +69,10 @@ fn compared(
     answer::compared(said, reply, out, call.code, len as u64, expected)
 }
 
-fn replayed(line: &[u8], call: Call) -> Outcome
-    ensures { λ r. ⌜ Confirms r (callAsks (now (line .entry)) (call .component) (call .node) (filled (call .«out_len»))) (callStores (now (line .entry)) (call .code) (filled (call .«out_len»))) ⌝ }
-{
-    let n = call.out_len;
-    if answer::ROOM < n {
-        return Outcome::Unread;
-    }
-    let mut left = [0u8; ROOM];
-    let mut right = [0u8; ROOM];
-    let mut out = answer::filled();
-    let mut expected = answer::filled();
-    compared(
-        line,
-        call,
-        &mut left,
-        &mut right,
-        &mut out[..n],
-        &mut expected[..n],
-    )
-}
-
 pub fn judged(line: &[u8]) -> Outcome
     ensures { λ r. ⌜ Confirms r (callDefined (now (line .entry))) (callStored (now (line .entry))) ⌝ }
 {
-    if lines::fields(line) != FIELDS {
-        return Outcome::Unread;
-    }
-    if !is_mark(lines::field(line, 7)) {
+    if !in_form(line) {
         return Outcome::Unread;
     }
     let a = answer::number_at(line, 0);
@@ -110,11 +91,25 @@ pub fn judged(line: &[u8]) -> Outcome
     let Number::Is(code) = d else {
         return Outcome::Unread;
     };
+    let n = out_len as usize;
+    if answer::ROOM < n {
+        return Outcome::Unread;
+    }
     let call = Call {
         component,
         node,
-        out_len: out_len as usize,
         code,
     };
-    replayed(line, call)
+    let mut left = [0u8; ROOM];
+    let mut right = [0u8; ROOM];
+    let mut out = answer::filled();
+    let mut expected = answer::filled();
+    compared(
+        line,
+        call,
+        &mut left,
+        &mut right,
+        &mut out[..n],
+        &mut expected[..n],
+    )
 }

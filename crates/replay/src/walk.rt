@@ -5,7 +5,6 @@ ghost use mathlib.Core.Option.{some};
 ghost use Prim.Native.Nat.{_<_};
 ghost use Rattle.plan.specs.Form.{nodeLimit};
 ghost use Rattle.replay.specs.Sheets.{placed, Lays, LaidOut};
-ghost use Rattle.replay.specs.Texts.{filled};
 ghost use Rattle.replay.specs.Answers.{Confirms};
 ghost use Rattle.replay.specs.PlanLine.{planAsks, planStores, planDefined, planStored};
 use crate::answer;
@@ -23,9 +22,8 @@ const COMMA: u8 = 44;
 
 const FIELDS: usize = 6;
 
-// The numbers of a line.
+// The numbers of a line, but for the work buffer's length.
 struct Call {
-    work_len: usize,
     code: u32,
     value: u32,
 }
@@ -115,19 +113,6 @@ fn compared(
     answer::compared(said, reply, work, call.code, call.value as u64, expected)
 }
 
-fn replayed(line: &[u8], call: Call) -> Outcome
-    ensures { λ r. ⌜ Confirms r (planAsks (now (line .entry)) (filled (call .«work_len»))) (planStores (now (line .entry)) (call .code) (call .value) (filled (call .«work_len»))) ⌝ }
-{
-    let n = call.work_len;
-    if answer::ROOM < n {
-        return Outcome::Unread;
-    }
-    let mut plan = [0u8; PLAN_ROOM];
-    let mut work = answer::filled();
-    let mut expected = answer::filled();
-    compared(line, call, &mut plan, &mut work[..n], &mut expected[..n])
-}
-
 pub fn judged(line: &[u8]) -> Outcome
     ensures { λ r. ⌜ Confirms r (planDefined (now (line .entry))) (planStored (now (line .entry))) ⌝ }
 {
@@ -146,10 +131,13 @@ pub fn judged(line: &[u8]) -> Outcome
     let Number::Is(value) = c else {
         return Outcome::Unread;
     };
-    let call = Call {
-        work_len: work_len as usize,
-        code,
-        value,
-    };
-    replayed(line, call)
+    let n = work_len as usize;
+    if answer::ROOM < n {
+        return Outcome::Unread;
+    }
+    let call = Call { code, value };
+    let mut plan = [0u8; PLAN_ROOM];
+    let mut work = answer::filled();
+    let mut expected = answer::filled();
+    compared(line, call, &mut plan, &mut work[..n], &mut expected[..n])
 }

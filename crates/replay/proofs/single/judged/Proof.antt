@@ -1,13 +1,15 @@
--- `replay::single::judged` meets its contract: the line's numbers are told.
+-- `replay::single::judged` meets its contract: the line's numbers are told, and the output's length is within the filled buffers.
 -- Assumes nothing.
-use Prim.Native.Nat.{ℕ}
-use mathlib.Core.Path.{_≡_, sym, _∙_}
+use Prim.Native.Nat.{ℕ, _≤_}
+use mathlib.Core.Path.{_≡_, sym, ap, _∙_}
 use mathlib.Core.List.{List}
+use lib.Seq.{length-take-le}
+use native.Mathlib.Omega.{arith}
 use denote.Ref.{now}
 use Rattle.lines.specs.declared.Number.the-variants as N
 use Rattle.replay.specs.Texts.{numberAt, withNumber, filled}
 use Rattle.replay.specs.CallLine.{callAsks, callStores, callDefined, callStored}
-use Rattle.replay.proofs.Buffers.{confirms}
+use Rattle.replay.proofs.Buffers.{confirms, part-filled}
 use borrow.Author.Needs.{needs}
 use Rattle.replay.proofs.single.judged.Statement.{statement}
 use Rattle.replay.proofs.single.judged.Tie as tie
@@ -20,20 +22,11 @@ is-stored : (line : List ℕ) {n code : ℕ} → numberAt 4 line ≡ N.Is n → 
 unfolding callStored withNumber
 is-stored line a b = rw (a, b)
 
-fields-requires : tie.Need-fields-requires
-fields-requires c κs = search needs
+in-form-requires : tie.Need-in-form-requires
+in-form-requires c κs = search needs
 
 returns : tie.Need-returns
 returns c = search needs
-
-field-requires : tie.Need-field-requires
-field-requires c κs = search needs
-
-is-mark-requires : tie.Need-is-mark-requires
-is-mark-requires c κs = search needs
-
-returns-2 : tie.Need-returns-2
-returns-2 c = search needs
 
 number-at-requires : tie.Need-number-at-requires
 number-at-requires c κs = search needs
@@ -44,8 +37,8 @@ enum-known-a c = search needs
 enum-told : tie.Need-enum-told
 enum-told c = search needs
 
-returns-3 : tie.Need-returns-3
-returns-3 c = search needs
+returns-2 : tie.Need-returns-2
+returns-2 c = search needs
 
 number-at-requires-2 : tie.Need-number-at-requires-2
 number-at-requires-2 c κs = search needs
@@ -56,8 +49,8 @@ enum-known-b c = search needs
 enum-told-2 : tie.Need-enum-told-2
 enum-told-2 c = search needs
 
-returns-4 : tie.Need-returns-4
-returns-4 c = search needs
+returns-3 : tie.Need-returns-3
+returns-3 c = search needs
 
 number-at-requires-3 : tie.Need-number-at-requires-3
 number-at-requires-3 c κs = search needs
@@ -68,8 +61,8 @@ enum-known-c c = search needs
 enum-told-3 : tie.Need-enum-told-3
 enum-told-3 c = search needs
 
-returns-5 : tie.Need-returns-5
-returns-5 c = search needs
+returns-4 : tie.Need-returns-4
+returns-4 c = search needs
 
 number-at-requires-4 : tie.Need-number-at-requires-4
 number-at-requires-4 c κs = search needs
@@ -80,49 +73,87 @@ enum-known-d c = search needs
 enum-told-4 : tie.Need-enum-told-4
 enum-told-4 c = search needs
 
+returns-5 : tie.Need-returns-5
+returns-5 c = search needs
+
+cast-n : tie.Need-cast-n
+cast-n c = search needs
+
 returns-6 : tie.Need-returns-6
 returns-6 c = search needs
 
-cast-t11 : tie.Need-cast-t11
-cast-t11 c = search needs
+filled-requires : tie.Need-filled-requires
+filled-requires c κs = search needs
 
-replayed-requires : tie.Need-replayed-requires
-replayed-requires c κs = search needs
+filled-requires-2 : tie.Need-filled-requires-2
+filled-requires-2 c κs = search needs
+
+slice-aggregate-compared : tie.Need-slice-aggregate-compared
+slice-aggregate-compared c = search needs
+
+slice-aggregate-compared-2 : tie.Need-slice-aggregate-compared-2
+slice-aggregate-compared-2 c = search needs
+
+array-borrow-prefix-out : tie.Need-array-borrow-prefix-out
+array-borrow-prefix-out c = search needs
+
+slice-aggregate-compared-3 : tie.Need-slice-aggregate-compared-3
+slice-aggregate-compared-3 c = sym (length-take-le (c .before .before .before .before .before .before .before .before .before .before .before .c .given .0 .0) (c .before .before .before .before .filled .result) (omega (arith, c .before .before .before .before .before .if2 .left, c .before .before .before .before .filled .ensures .0)))
+
+array-borrow-prefix-expected : tie.Need-array-borrow-prefix-expected
+array-borrow-prefix-expected c = search needs
+
+slice-aggregate-compared-4 : tie.Need-slice-aggregate-compared-4
+slice-aggregate-compared-4 c = sym (length-take-le (c .before .before .before .before .before .before .before .before .before .before .before .before .c .given .0 .0) (c .before .before .before .before .filled2 .result) (omega (arith, c .before .before .before .before .before .before .if2 .left, c .before .before .before .before .filled2 .ensures .0)))
+
+compared-requires : tie.Need-compared-requires
+compared-requires c κs = search needs
 
 returns-7 : tie.Need-returns-7
 returns-7 c =
-    let line = now (c .before .before .before .before .before .before .before .before .before .before .before .before .before .before .before .before .before .before .before .before .before .before .before .args .line) in
-    let component = sym (c .before .before .before .before .before .before .before .before .before .before .before .before .before .before .before .before .number-at .ensures) ∙ c .before .before .before .before .before .before .before .before .before .before .before .before .before .before .a .given .1 in
-    let node = sym (c .before .before .before .before .before .before .before .before .before .before .before .before .number-at2 .ensures) ∙ c .before .before .before .before .before .before .before .before .before .before .b .given .1 in
-    let n = sym (c .before .before .before .before .before .before .before .before .number-at3 .ensures) ∙ c .before .before .before .before .before .before .c .given .1 in
-    let code = sym (c .before .before .before .before .number-at4 .ensures) ∙ c .before .before .d .given .1 in
-    confirms (c .replayed .result) (is-defined line component node n) (is-stored line n code) (c .replayed .ensures)
+    let line = now (c .before .before .before .before .before .before .before .before .before .before .before .before .before .before .before .before .before .before .before .before .before .before .before .before .before .before .before .before .before .before .before .args .line) in
+    let component = sym (c .before .before .before .before .before .before .before .before .before .before .before .before .before .before .before .before .before .before .before .before .before .before .before .before .before .before .before .number-at .ensures) ∙ c .before .before .before .before .before .before .before .before .before .before .before .before .before .before .before .before .before .before .before .before .before .before .before .before .before .a .given .1 in
+    let node = sym (c .before .before .before .before .before .before .before .before .before .before .before .before .before .before .before .before .before .before .before .before .before .before .before .number-at2 .ensures) ∙ c .before .before .before .before .before .before .before .before .before .before .before .before .before .before .before .before .before .before .before .before .before .b .given .1 in
+    let length = sym (c .before .before .before .before .before .before .before .before .before .before .before .before .before .before .before .before .before .before .before .number-at3 .ensures) ∙ c .before .before .before .before .before .before .before .before .before .before .before .before .before .before .before .before .before .c .given .1 in
+    let code = sym (c .before .before .before .before .before .before .before .before .before .before .before .before .before .before .before .number-at4 .ensures) ∙ c .before .before .before .before .before .before .before .before .before .before .before .before .before .d .given .1 in
+    let n = c .before .before .before .before .before .before .before .before .before .before .before .before .before .before .before .before .before .c .given .0 .0 in
+    let within : n ≤ 41088 = omega (arith, c .before .before .before .before .before .before .before .before .before .before .before .if2 .left) in
+    let out = part-filled n 41088 within (c .before .before .before .before .before .before .before .before .before .before .filled .ensures .1) in
+    let expected = part-filled n 41088 within (c .before .before .before .before .before .before .before .before .before .filled2 .ensures .1) in
+    let made = c .before .before .before .before .compared in
+    confirms (made .result) (is-defined line component node length ∙ ap (callAsks line _ _) out) (is-stored line length code ∙ ap (callStores line _) expected) (made .ensures)
 
 pub judged-spec : {M : Type 1} → statement M
 judged-spec =
     tie.close
     (tie.spec
-    fields-requires
+    in-form-requires
     returns
-    field-requires
-    is-mark-requires
-    returns-2
     number-at-requires
     enum-known-a
     enum-told
-    returns-3
+    returns-2
     number-at-requires-2
     enum-known-b
     enum-told-2
-    returns-4
+    returns-3
     number-at-requires-3
     enum-known-c
     enum-told-3
-    returns-5
+    returns-4
     number-at-requires-4
     enum-known-d
     enum-told-4
+    returns-5
+    cast-n
     returns-6
-    cast-t11
-    replayed-requires
+    filled-requires
+    filled-requires-2
+    slice-aggregate-compared
+    slice-aggregate-compared-2
+    array-borrow-prefix-out
+    slice-aggregate-compared-3
+    array-borrow-prefix-expected
+    slice-aggregate-compared-4
+    compared-requires
     returns-7)
