@@ -9,7 +9,8 @@ use Rattle.gate.specs.Reply.{replied}
 use Rattle.replay.specs.declared.tally.Outcome.{Outcome}
 use Rattle.replay.specs.declared.tally.Outcome.the-variants as O
 
--- where a line agrees, what it stores is what is defined: code, value and every byte; where it differs, the reply is as defined and the line stores another
+-- where a line agrees, what it stores is what is defined: code, value and every byte; where it differs, the reply is as defined and the line stores
+-- another; of a line that cannot be read nothing is said
 abbrev pub Confirms : Outcome → Option Single.Outcome → Option Single.Outcome → Type 0
 Confirms (O.Agrees said) defined stored = (o : Single.Outcome) × (defined ≡ some o) × (stored ≡ some o)
 Confirms (O.Differs said reply) defined stored =

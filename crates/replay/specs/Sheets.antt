@@ -1,4 +1,4 @@
--- The sheets that a line of the list lays into the slots of a work buffer.
+-- The sheets that a line of the list of plans lays into the slots of a work buffer.
 use Prim.Native.Nat.{ℕ, _+_}
 use mathlib.Core.Path.{_≡_}
 use mathlib.Core.Bool.{cond}

@@ -16,6 +16,7 @@ numberAt k line = numberOf (fieldOf k line)
 abbrev pub bytesAt : ℕ → List ℕ → Option (List ℕ)
 bytesAt k line = fieldBytes (fieldOf k line)
 
+-- none where the field is no number
 unfoldable pub withNumber : Number → (ℕ → Option Outcome) → Option Outcome
 withNumber (N.Is v) f = f v
 withNumber N.Not f = none

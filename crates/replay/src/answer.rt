@@ -10,7 +10,6 @@ ghost use Rattle.plan.specs.Form.{nodeLimit};
 ghost use Rattle.plan.specs.Walk as Walk;
 ghost use Rattle.gate.specs.Reply.{replied};
 ghost use Rattle.replay.specs.Texts as Texts;
-ghost use Rattle.replay.specs.Texts.{numberAt};
 ghost use Rattle.replay.specs.Answers.{Confirms};
 use crate::tally::Outcome;
 use crate::tally::Said;
@@ -27,7 +26,7 @@ const VALUE_UNIT: u64 = 4294967296;
 
 // A field's number.
 pub fn number_at(line: &[u8], k: usize) -> Number
-    ensures { λ r. ⌜ r ≡ numberAt k (now (line .entry)) ⌝ }
+    ensures { λ r. ⌜ r ≡ Texts.numberAt k (now (line .entry)) ⌝ }
 {
     lines::decimal(lines::field(line, k))
 }
