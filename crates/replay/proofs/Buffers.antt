@@ -1,6 +1,6 @@
 -- Laws of what a line's fields tell: bytes at the start of a buffer, sheets in slots; and of a part of a filled buffer.
 -- Assumes nothing.
-use Prim.Native.Nat.{ℕ, zero, suc, _+_, _-_, _*_, _≤_}
+use Prim.Native.Nat.{ℕ, zero, suc, _+_, _-_, _≤_}
 use mathlib.Core.Path.{_≡_, refl, sym, ap, subst, _∙_}
 use mathlib.Core.Bool.{true}
 use mathlib.Core.Option.{Option, some, bind}
@@ -10,7 +10,9 @@ use lib.Dec.{leb}
 use lib.ListN.{length, take, drop}
 use lib.Seq.{drop-drop, take-at, length-take-le}
 use borrow.Rule.Slice.PartMut.{putMid}
+use Rattle.base.specs.Form.{narrow, longest}
 use Rattle.transforms.specs.Single as Single
+use Rattle.plan.specs.Walk.{slotAt}
 use Rattle.plan.proofs.Parts.{part-lent, part-back}
 use Rattle.lines.specs.Fields.{fieldOf}
 use Rattle.lines.specs.Bytes.{fieldBytes, Puts, Within}
@@ -54,11 +56,13 @@ module _ {h : Held} {n : ℕ} (e : h ≡ H.Len n) where
   put-length d w = sym (length-take-le n d (put-within (length d) w))
 
 -- a sheet that was put into the rest of a buffer, once that is back
-pub slot-told : (s : List ℕ) (k : ℕ) (d vs : List ℕ) {n : ℕ} {d′ : List ℕ} → fieldBytes s ≡ some vs → length vs ≡ n → leb n 1284 ≡ true → d′ ≡ vs ++ drop n (take (length d - k * 1284) (drop (k * 1284) d)) → placed s k d ≡ some (putMid (k * 1284) (length d - k * 1284) d d′)
+pub slot-told : (s : List ℕ) (k : ℕ) (d vs : List ℕ) {n : ℕ} {d′ : List ℕ} → fieldBytes s ≡ some vs → length vs ≡ n → leb n (longest narrow) ≡ true
+    → d′ ≡ vs ++ drop n (take (length d - slotAt narrow k) (drop (slotAt narrow k) d))
+    → placed s k d ≡ some (putMid (slotAt narrow k) (length d - slotAt narrow k) d d′)
 unfolding placed bind
 slot-told s k d vs {n} {d′} told e t f =
-    let at = k * 1284 in
-    let fits : leb (length vs) 1284 ≡ true = rw e t in
+    let at = slotAt narrow k in
+    let fits : leb (length vs) (longest narrow) ≡ true = rw e t in
     let back =
     part-back at d d′
     ∙ ap (λ (l : List ℕ). take at d ++ l) (f ∙ ap (λ (l : List ℕ). vs ++ drop n l) (part-lent at d) ∙ ap (λ (j : ℕ). vs ++ drop j (drop at d)) (sym e) ∙ ap (λ (l : List ℕ). vs ++ l) (drop-drop (length vs) at d))

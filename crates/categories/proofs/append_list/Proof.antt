@@ -60,12 +60,6 @@ loop-holds c =
       pending-start (now (a .values)) (8 * a .t) (listBytes xs),
     )
 
-put-u8-requires : tie.Need-put-u8-requires Inv-loop μ-loop
-put-u8-requires c κs = search needs
-
-put-i64-requires : tie.Need-put-i64-requires Inv-loop μ-loop
-put-i64-requires c κs = search needs
-
 loop-again : tie.Need-loop-again Inv-loop μ-loop
 loop-again c =
     let w = c .before .before in
@@ -116,10 +110,10 @@ append-list-spec =
     (λ c. search needs)
     loop-holds
     (λ c. search needs)
-    put-u8-requires
+    (λ c κs. search needs)
     (λ c. search needs)
     (λ c. search needs)
-    put-i64-requires
+    (λ c κs. search needs)
     (λ c. search needs)
     (λ c. search needs)
     loop-again

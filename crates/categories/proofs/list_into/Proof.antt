@@ -79,9 +79,6 @@ slice-aggregate-note-hinted c = sym (c .before .before .before .before .before .
 note-hinted-requires : tie.Need-note-hinted-requires Inv-loop μ-loop
 note-hinted-requires c κs = let l = c .before .before .before .before .before .before .before .before .before .loop in (begins-room (l .inv .5 .begins), l .inv .4)
 
-same-length : tie.Need-same-length Inv-loop μ-loop
-same-length c = search needs
-
 returns : tie.Need-returns Inv-loop μ-loop
 returns c =
     let n = c .before .before .before .before in
@@ -115,9 +112,6 @@ loop-again-2 c =
     let size : m .m .given .0 .0 ≤ l .i + 1 = omega (arith, begins .count, noted-length eqZ (take (l .n) (l .out)) v, length-take-le (l .n) (l .out) (begins-room (l .inv .5 .begins)), l .inv .2) in
     (l .inv .0, omega (arith, p .before .loop-test .taken), size, n .note-hinted .kept .0 ∙ l .inv .3, hinting-at (l .n) (n .note-hinted .last .0) (m .m .given .1) (n .note-hinted .ensures .1), taking-note (l .inv .5) has read begins)
 
-same-length-2 : tie.Need-same-length-2 Inv-loop μ-loop
-same-length-2 c = search needs
-
 returns-2 : tie.Need-returns-2 Inv-loop μ-loop
 returns-2 c =
     let l = c .before .loop in
@@ -146,9 +140,9 @@ list-into-spec =
     note-hinted-requires
     (λ c. search needs)
     (λ c. search needs)
-    same-length
+    (λ c. search needs)
     returns
     (λ c. search needs)
     loop-again-2
-    same-length-2
+    (λ c. search needs)
     returns-2)

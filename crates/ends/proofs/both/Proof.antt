@@ -6,18 +6,6 @@ use Rattle.ends.specs.declared.End.{End}
 use Rattle.ends.proofs.both.Statement.{statement}
 use Rattle.ends.proofs.both.Tie as tie
 
-enum-known-lower : tie.Need-enum-known-lower
-enum-known-lower c = search needs
-
-enum-known-lower-2 : tie.Need-enum-known-lower-2
-enum-known-lower-2 c = search needs
-
-enum-known-upper : tie.Need-enum-known-upper
-enum-known-upper c = search needs
-
-enum-known-upper-2 : tie.Need-enum-known-upper-2
-enum-known-upper-2 c = search needs
-
 returns : tie.Need-returns
 returns c = sym (ap (λ (l : End). bothEnds l (c .before .before .before .args .upper)) (c .before .lower .given .1))
 
@@ -30,4 +18,4 @@ returns-3 c = sym (ap₂ bothEnds (c .before .before .before .before .lower2 .gi
 pub both-spec : {M : Type 1} → statement M
 both-spec =
     tie.close
-    (tie.spec enum-known-lower enum-known-lower-2 enum-known-upper enum-known-upper-2 returns returns-2 returns-3)
+    (tie.spec (λ c. search needs) (λ c. search needs) (λ c. search needs) (λ c. search needs) returns returns-2 returns-3)

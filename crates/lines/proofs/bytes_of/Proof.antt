@@ -14,20 +14,11 @@ use Rattle.lines.proofs.bytes_of.Tie as tie
 returns : tie.Need-returns
 returns c = (none-of (field-none (now (c .before .before .before .args .s)) (c .if1 .taken)), tt)
 
-shared-slice-read-if3 : tie.Need-shared-slice-read-if3
-shared-slice-read-if3 c = search needs
-
 returns-2 : tie.Need-returns-2
 returns-2 c = (([], field-dash (now (c .before .before .before .before .before .before .args .s)) (c .before .before .if2 .taken) (c .if3 .taken), refl, refl), search needs)
 
 returns-3 : tie.Need-returns-3
 returns-3 c = (none-of (field-other (now (c .before .before .before .before .before .before .args .s)) (c .before .before .if2 .taken) (c .if3 .left)), tt)
-
-pairs-requires : tie.Need-pairs-requires
-pairs-requires c κs = search needs
-
-same-length : tie.Need-same-length
-same-length c = search needs
 
 returns-4 : tie.Need-returns-4
 returns-4 c =
@@ -39,9 +30,9 @@ bytes-of-spec =
     tie.close
     (tie.spec
     returns
-    shared-slice-read-if3
+    (λ c. search needs)
     returns-2
     returns-3
-    pairs-requires
-    same-length
+    (λ c κs. search needs)
+    (λ c. search needs)
     returns-4)

@@ -25,30 +25,12 @@ returns c = number-none (now (c .before .before .args .s)) (c .if1 .taken)
 loop-holds : tie.Need-loop-holds Inv-loop μ-loop
 loop-holds c = (search needs, search needs, number-start (now (c .before .before .args .s)) (c .if1 .left))
 
-shared-slice-read-decimal-more : tie.Need-shared-slice-read-decimal-more Inv-loop μ-loop
-shared-slice-read-decimal-more c = search needs
-
-decimal-more-requires : tie.Need-decimal-more-requires Inv-loop μ-loop
-decimal-more-requires c κs = search needs
-
-enum-known-next : tie.Need-enum-known-next Inv-loop μ-loop
-enum-known-next c = search needs
-
-enum-told : tie.Need-enum-told Inv-loop μ-loop
-enum-told c = search needs
-
 returns-2 : tie.Need-returns-2 Inv-loop μ-loop
 returns-2 c =
     let l = c .before .before .before .before .before .loop in
     let s = now (c .before .before .before .before .before .before .before .before .args .s) in
     let rest = thenMore (drop (l .i + 1) s) in
     sym (never (drop (l .i + 1) s)) ∙ ap rest (sym (c .enum-told .given .1) ∙ c .before .before .decimal-more .ensures) ∙ sym (number-more s (l .i) (l .value) (c .before .before .before .before .loop-test .taken)) ∙ l .inv .2
-
-add-i : tie.Need-add-i Inv-loop μ-loop
-add-i c = search needs
-
-loop-less : tie.Need-loop-less Inv-loop μ-loop
-loop-less c = search needs
 
 loop-again : tie.Need-loop-again Inv-loop μ-loop
 loop-again c =
@@ -68,12 +50,12 @@ decimal-spec =
     μ-loop
     returns
     loop-holds
-    shared-slice-read-decimal-more
-    decimal-more-requires
-    enum-known-next
-    enum-told
+    (λ c. search needs)
+    (λ c κs. search needs)
+    (λ c. search needs)
+    (λ c. search needs)
     returns-2
-    add-i
-    loop-less
+    (λ c. search needs)
+    (λ c. search needs)
     loop-again
     returns-3)

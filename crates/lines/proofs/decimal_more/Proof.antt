@@ -16,23 +16,11 @@ returns-2 : tie.Need-returns-2
 unfolding numberMore
 returns-2 c = rw (le-leb 48 (c .before .before .args .b) (omega arith), lt-leb (c .before .before .args .b) 57 (omega arith))
 
-mul-more : tie.Need-mul-more
-mul-more c = search needs
-
-cast-more : tie.Need-cast-more
-cast-more c = search needs
-
-add-more : tie.Need-add-more
-add-more c = search needs
-
 returns-3 : tie.Need-returns-3
 unfolding numberMore
 returns-3 c =
     let a = c .before .before .before .args in
     rw (le-leb 48 (a .b) (omega arith), le-leb (a .b) 57 (omega arith), le-ltb (a .value * 10 + (a .b - 48)) (2 ^ 32) (omega arith))
-
-cast-t9 : tie.Need-cast-t9
-cast-t9 c = search needs
 
 returns-4 : tie.Need-returns-4
 unfolding numberMore
@@ -42,4 +30,4 @@ returns-4 c =
 
 pub decimal-more-spec : {M : Type 1} → statement M
 decimal-more-spec =
-    tie.close (tie.spec returns returns-2 mul-more cast-more add-more returns-3 cast-t9 returns-4)
+    tie.close (tie.spec returns returns-2 (λ c. search needs) (λ c. search needs) (λ c. search needs) returns-3 (λ c. search needs) returns-4)

@@ -11,17 +11,8 @@ use Rattle.lines.proofs.first.Tie as tie
 slice-aggregate-find : tie.Need-slice-aggregate-find
 slice-aggregate-find c = sym (length-take-le (c .before .before .args .filled) (now (c .before .before .args .buf)) (c .before .before .pre))
 
-find-requires : tie.Need-find-requires
-find-requires c κs = search needs
-
-add-t8 : tie.Need-add-t8
-add-t8 c = search needs
-
-returns : tie.Need-returns
-returns c = search needs
-
 returns-2 : tie.Need-returns-2
 returns-2 c = omega (arith, length-take-le (c .before .before .before .before .args .filled) (now (c .before .before .before .before .args .buf)) (c .before .before .before .before .pre))
 
 pub first-spec : {M : Type 1} → statement M
-first-spec = tie.close (tie.spec slice-aggregate-find find-requires add-t8 returns returns-2)
+first-spec = tie.close (tie.spec slice-aggregate-find (λ c κs. search needs) (λ c. search needs) (λ c. search needs) returns-2)

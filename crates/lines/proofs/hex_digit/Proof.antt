@@ -8,9 +8,6 @@ use native.Mathlib.Omega.{arith}
 use Rattle.lines.proofs.hex_digit.Statement.{statement}
 use Rattle.lines.proofs.hex_digit.Tie as tie
 
-sub-t5 : tie.Need-sub-t5
-sub-t5 c = search needs
-
 returns : tie.Need-returns
 unfolding hexDigit
 returns c = (rw (le-leb 48 (c .before .before .args .b) (omega arith), le-leb (c .before .before .args .b) 57 (omega arith)), omega arith)
@@ -38,4 +35,4 @@ returns-5 c =
     (rw (le-leb 48 b (omega arith), lt-leb b 57 (omega arith), le-leb 97 b (omega arith), lt-leb b 102 (omega arith)), tt)
 
 pub hex-digit-spec : {M : Type 1} → statement M
-hex-digit-spec = tie.close (tie.spec sub-t5 returns returns-2 returns-3 returns-4 returns-5)
+hex-digit-spec = tie.close (tie.spec (λ c. search needs) returns returns-2 returns-3 returns-4 returns-5)

@@ -18,25 +18,10 @@ use Rattle.replay.proofs.judged.Tie as tie
 judged-by : (b : Bool) {t : Bool} (o : Outcome) (d s : Option Single.Outcome) → b ≡ t → Judged t o d s → Judged b o d s
 judged-by b o d s e h = subst (λ (t : Bool). Judged t o d s) (sym e) h
 
-is-comment-requires : tie.Need-is-comment-requires
-is-comment-requires c κs = search needs
-
 returns : tie.Need-returns
 returns c =
     let a = c .before .before .before .args in
     judged-by (isComment (now (a .line))) _ _ _ (sym (c .before .is-comment .ensures) ∙ c .if1 .taken) refl
-
-enum-told : tie.Need-enum-told
-enum-told c = search needs
-
-judged-requires : tie.Need-judged-requires
-judged-requires c κs = search needs
-
-enum-told-2 : tie.Need-enum-told-2
-enum-told-2 c = search needs
-
-judged-requires-2 : tie.Need-judged-requires-2
-judged-requires-2 c κs = search needs
 
 returns-2 : tie.Need-returns-2
 returns-2 c =
@@ -56,11 +41,11 @@ pub judged-spec : {M : Type 1} → statement M
 judged-spec =
     tie.close
     (tie.spec
-    is-comment-requires
+    (λ c κs. search needs)
     returns
-    enum-told
-    judged-requires
-    enum-told-2
-    judged-requires-2
+    (λ c. search needs)
+    (λ c κs. search needs)
+    (λ c. search needs)
+    (λ c κs. search needs)
     returns-2
     returns-3)

@@ -28,24 +28,12 @@ loop-holds : tie.Need-loop-holds Inv-loop μ-loop
 unfolding firsts firstsFrom
 loop-holds c = (search needs, refl, begins-none (now (c .args .out)))
 
-mul-append-new : tie.Need-mul-append-new Inv-loop μ-loop
-mul-append-new c = search needs
-
-shared-slice-copy-out-append-new : tie.Need-shared-slice-copy-out-append-new Inv-loop μ-loop
-shared-slice-copy-out-append-new c = search needs
-
 append-new-requires : tie.Need-append-new-requires Inv-loop μ-loop
 append-new-requires c κs =
     let b = c .before .before .before .before in
     let l = c .before .before .before .loop in
     let xs = now (b .args .xs) in
     omega (arith, b .pre, l .inv .2 .count, firsts-length eqZ (take (l .i) xs), length-take-le (l .i) xs (l .inv .0))
-
-add-i : tie.Need-add-i Inv-loop μ-loop
-add-i c = search needs
-
-loop-less : tie.Need-loop-less Inv-loop μ-loop
-loop-less c = search needs
 
 loop-again : tie.Need-loop-again Inv-loop μ-loop
 loop-again c =
@@ -57,9 +45,6 @@ loop-again c =
     let next = c .before .before .before .before .loop-test .taken in
     let noted = begins-next xs (now (b .args .out)) (l .out) (call .last .0) (l .n) (call .result) (l .i) read next (l .inv .2) (call .ensures) in
     (search needs, search needs, noted)
-
-same-length : tie.Need-same-length Inv-loop μ-loop
-same-length c = search needs
 
 returns : tie.Need-returns Inv-loop μ-loop
 returns c =
@@ -75,11 +60,11 @@ deduplicate-spec =
     Inv-loop
     μ-loop
     loop-holds
-    mul-append-new
-    shared-slice-copy-out-append-new
+    (λ c. search needs)
+    (λ c. search needs)
     append-new-requires
-    add-i
-    loop-less
+    (λ c. search needs)
+    (λ c. search needs)
     loop-again
-    same-length
+    (λ c. search needs)
     returns)

@@ -9,9 +9,6 @@ use native.Mathlib.Omega.{arith}
 use Rattle.words.proofs.magnitude.Statement.{statement}
 use Rattle.words.proofs.magnitude.Tie as tie
 
-add-result : tie.Need-add-result
-add-result c = search needs
-
 returns : tie.Need-returns
 unfolding magnitudeOf
 returns c = rw (lt-ltb (c .before .args .v) (2 ^ 63) (c .if1 .taken))
@@ -21,4 +18,4 @@ unfolding magnitudeOf
 returns-2 c = rw (le-ltb (c .before .args .v) (2 ^ 63) (c .if1 .left)) (omega arith)
 
 pub magnitude-spec : {M : Type 1} → statement M
-magnitude-spec = tie.close (tie.spec add-result returns returns-2)
+magnitude-spec = tie.close (tie.spec (λ c. search needs) returns returns-2)

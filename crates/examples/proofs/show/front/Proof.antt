@@ -11,11 +11,8 @@ use Rattle.examples.proofs.show.front.Tie as tie
 slice-aggregate-result : tie.Need-slice-aggregate-result
 slice-aggregate-result c = sym (length-take-le (c .before .before .args .n) (now (c .before .before .args .s)) (c .before .if1 .taken))
 
-returns : tie.Need-returns
-returns c = search needs
-
 returns-2 : tie.Need-returns-2
 returns-2 c = sym (take-all (c .before .args .n) (now (c .before .args .s)) (omega arith))
 
 pub front-spec : {M : Type 1} → statement M
-front-spec = tie.close (tie.spec slice-aggregate-result returns returns-2)
+front-spec = tie.close (tie.spec slice-aggregate-result (λ c. search needs) returns-2)

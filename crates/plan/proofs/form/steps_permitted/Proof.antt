@@ -21,9 +21,6 @@ loop-holds c =
     let p = permitted (now (c .before .before .before .args .plan)) in
     (search needs, record { rest = ap₂ (λ (n k : ℕ). holdsFrom (n - k) k p) (c .before .node-count .ensures) (c .leaf-count .ensures) })
 
-step-permitted-requires : tie.Need-step-permitted-requires Inv-loop μ-loop
-step-permitted-requires c κs = search needs
-
 returns : tie.Need-returns Inv-loop μ-loop
 returns c =
     let t = c .before .before in
@@ -46,7 +43,7 @@ steps-permitted-spec =
     (λ c κs. search needs)
     (λ c κs. search needs)
     loop-holds
-    step-permitted-requires
+    (λ c κs. search needs)
     returns
     (λ c. search needs)
     (λ c. search needs)

@@ -12,20 +12,11 @@ use Rattle.replay.proofs.answer.agrees.Tie as tie
 alike : {k k′ v v′ : ℕ} {b b′ : List ℕ} → k ≡ k′ → v ≡ v′ → b ≡ b′ → outcome k v b ≡ outcome k′ v′ b′
 alike e f g = rw (e, f, g)
 
-code-of-requires : tie.Need-code-of-requires
-code-of-requires c κs = search needs
-
 returns : tie.Need-returns
 returns c = (λ e. let z : _≡_ {A = ℕ} 0 1 = cc in absurd (omega arith), λ e. absurd (omega (arith, c .before .code-of .ensures, ap (λ (o : Outcome). o .code) e)))
 
-value-of-requires : tie.Need-value-of-requires
-value-of-requires c κs = search needs
-
 returns-2 : tie.Need-returns-2
 returns-2 c = (λ e. let z : _≡_ {A = ℕ} 0 1 = cc in absurd (omega arith), λ e. absurd (omega (arith, c .before .value-of .ensures, ap (λ (o : Outcome). o .value) e)))
-
-same-requires : tie.Need-same-requires
-same-requires c κs = search needs
 
 returns-3 : tie.Need-returns-3
 returns-3 c = (λ e. alike (omega (arith, c .before .before .before .before .code-of .ensures)) (omega (arith, c .before .before .value-of .ensures)) (c .same .ensures .0 e), λ e. c .same .ensures .1 (ap (λ (o : Outcome). o .bytes) e))
@@ -33,4 +24,4 @@ returns-3 c = (λ e. alike (omega (arith, c .before .before .before .before .cod
 pub agrees-spec : {M : Type 1} → statement M
 agrees-spec =
     tie.close
-    (tie.spec code-of-requires returns value-of-requires returns-2 same-requires returns-3)
+    (tie.spec (λ c κs. search needs) returns (λ c κs. search needs) returns-2 (λ c κs. search needs) returns-3)

@@ -10,9 +10,6 @@ use borrow.Author.Needs.{needs}
 use Rattle.replay.proofs.answer.compared.Statement.{statement}
 use Rattle.replay.proofs.answer.compared.Tie as tie
 
-agrees-requires : tie.Need-agrees-requires
-agrees-requires c κs = search needs
-
 returns : tie.Need-returns
 returns c =
     let a = c .before .before .before .before .args in
@@ -24,4 +21,4 @@ returns-2 c =
     (now (a .lent), outcome (a .code) (a .value) (now (a .expected)), refl, refl, λ e. not-both (c .if1 .left) (c .before .agrees .ensures .1 e))
 
 pub compared-spec : {M : Type 1} → statement M
-compared-spec = tie.close (tie.spec agrees-requires returns returns-2)
+compared-spec = tie.close (tie.spec (λ c κs. search needs) returns returns-2)

@@ -6,12 +6,6 @@ use borrow.Author.Needs.{needs}
 use Rattle.replay.proofs.answer.number_at.Statement.{statement}
 use Rattle.replay.proofs.answer.number_at.Tie as tie
 
-field-requires : tie.Need-field-requires
-field-requires c κs = search needs
-
-decimal-requires : tie.Need-decimal-requires
-decimal-requires c κs = search needs
-
 returns : tie.Need-returns
 returns c = c .decimal .ensures ∙ ap numberOf (c .before .field .ensures)
 
@@ -19,6 +13,6 @@ pub number-at-spec : {M : Type 1} → statement M
 number-at-spec =
     tie.close
     (tie.spec
-    field-requires
-    decimal-requires
+    (λ c κs. search needs)
+    (λ c κs. search needs)
     returns)

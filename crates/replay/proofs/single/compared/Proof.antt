@@ -27,69 +27,6 @@ stored : (line : List ℕ) {t : List ℕ} → t ≡ fieldOf 6 line → (d d′ :
 unfolding callStores
 stored line f d d′ e p code = bytes-stored f d d′ e p code
 
-field-requires : tie.Need-field-requires
-field-requires c κs = search needs
-
-bytes-of-requires : tie.Need-bytes-of-requires
-bytes-of-requires c κs = search needs
-
-enum-known-a : tie.Need-enum-known-a
-enum-known-a c = search needs
-
-enum-told : tie.Need-enum-told
-enum-told c = search needs
-
-same-length : tie.Need-same-length
-same-length c = search needs
-
-returns : tie.Need-returns
-returns c = search needs
-
-field-requires-2 : tie.Need-field-requires-2
-field-requires-2 c κs = search needs
-
-bytes-of-requires-2 : tie.Need-bytes-of-requires-2
-bytes-of-requires-2 c κs = search needs
-
-enum-known-b : tie.Need-enum-known-b
-enum-known-b c = search needs
-
-enum-told-2 : tie.Need-enum-told-2
-enum-told-2 c = search needs
-
-same-length-2 : tie.Need-same-length-2
-same-length-2 c = search needs
-
-same-length-3 : tie.Need-same-length-3
-same-length-3 c = search needs
-
-returns-2 : tie.Need-returns-2
-returns-2 c = search needs
-
-field-requires-3 : tie.Need-field-requires-3
-field-requires-3 c κs = search needs
-
-bytes-of-requires-3 : tie.Need-bytes-of-requires-3
-bytes-of-requires-3 c κs = search needs
-
-enum-known-c : tie.Need-enum-known-c
-enum-known-c c = search needs
-
-enum-told-3 : tie.Need-enum-told-3
-enum-told-3 c = search needs
-
-same-length-4 : tie.Need-same-length-4
-same-length-4 c = search needs
-
-same-length-5 : tie.Need-same-length-5
-same-length-5 c = search needs
-
-same-length-6 : tie.Need-same-length-6
-same-length-6 c = search needs
-
-returns-3 : tie.Need-returns-3
-returns-3 c = search needs
-
 slice-reshare-prefix-propagate-property : tie.Need-slice-reshare-prefix-propagate-property
 slice-reshare-prefix-propagate-property c =
     let put = c .before .before .before .before .before .before .before .before .before .before .before .before .before .before .before .before .before .before .before .before .before .bytes-of in
@@ -110,26 +47,8 @@ slice-aggregate-propagate-property-2 c =
     let put = c .before .before .before .before .before .before .before .before .before .before .before .before .before .before .before .bytes-of2 in
     put-length (c .before .before .before .before .before .before .before .before .before .before .before .b .given .1) (put .last .1 .0) (put .ensures .1)
 
-propagate-property-requires : tie.Need-propagate-property-requires
-propagate-property-requires c κs = search needs
-
-of-call-requires : tie.Need-of-call-requires
-of-call-requires c κs = search needs
-
-compared-requires : tie.Need-compared-requires
-compared-requires c κs = search needs
-
 same-length-7 : tie.Need-same-length-7
 same-length-7 c = c .before .before .before .before .before .before .before .before .before .before .before .before .before .before .before .before .before .before .before .before .before .before .before .before .before .before .before .before .before .before .before .bytes-of .kept .1 .0
-
-same-length-8 : tie.Need-same-length-8
-same-length-8 c = search needs
-
-same-length-9 : tie.Need-same-length-9
-same-length-9 c = search needs
-
-same-length-10 : tie.Need-same-length-10
-same-length-10 c = search needs
 
 returns-4 : tie.Need-returns-4
 returns-4 c =
@@ -147,36 +66,36 @@ pub compared-spec : {M : Type 1} → statement M
 compared-spec =
     tie.close
     (tie.spec
-    field-requires
-    bytes-of-requires
-    enum-known-a
-    enum-told
-    same-length
-    returns
-    field-requires-2
-    bytes-of-requires-2
-    enum-known-b
-    enum-told-2
-    same-length-2
-    same-length-3
-    returns-2
-    field-requires-3
-    bytes-of-requires-3
-    enum-known-c
-    enum-told-3
-    same-length-4
-    same-length-5
-    same-length-6
-    returns-3
+    (λ c κs. search needs)
+    (λ c κs. search needs)
+    (λ c. search needs)
+    (λ c. search needs)
+    (λ c. search needs)
+    (λ c. search needs)
+    (λ c κs. search needs)
+    (λ c κs. search needs)
+    (λ c. search needs)
+    (λ c. search needs)
+    (λ c. search needs)
+    (λ c. search needs)
+    (λ c. search needs)
+    (λ c κs. search needs)
+    (λ c κs. search needs)
+    (λ c. search needs)
+    (λ c. search needs)
+    (λ c. search needs)
+    (λ c. search needs)
+    (λ c. search needs)
+    (λ c. search needs)
     slice-reshare-prefix-propagate-property
     slice-aggregate-propagate-property
     slice-reshare-prefix-propagate-property-2
     slice-aggregate-propagate-property-2
-    propagate-property-requires
-    of-call-requires
-    compared-requires
+    (λ c κs. search needs)
+    (λ c κs. search needs)
+    (λ c κs. search needs)
     same-length-7
-    same-length-8
-    same-length-9
-    same-length-10
+    (λ c. search needs)
+    (λ c. search needs)
+    (λ c. search needs)
     returns-4)

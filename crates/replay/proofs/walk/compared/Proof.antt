@@ -26,45 +26,6 @@ stored : (line : List ℕ) (code value : ℕ) (d : List ℕ) {d′ : List ℕ} �
 unfolding planStores bind
 stored line code value d e = rw e
 
-field-requires : tie.Need-field-requires
-field-requires c κs = search needs
-
-bytes-of-requires : tie.Need-bytes-of-requires
-bytes-of-requires c κs = search needs
-
-enum-known-a : tie.Need-enum-known-a
-enum-known-a c = search needs
-
-enum-told : tie.Need-enum-told
-enum-told c = search needs
-
-same-length : tie.Need-same-length
-same-length c = search needs
-
-returns : tie.Need-returns
-returns c = search needs
-
-laid-out-requires : tie.Need-laid-out-requires
-laid-out-requires c κs = search needs
-
-enum-known-b : tie.Need-enum-known-b
-enum-known-b c = search needs
-
-enum-told-2 : tie.Need-enum-told-2
-enum-told-2 c = search needs
-
-same-length-2 : tie.Need-same-length-2
-same-length-2 c = search needs
-
-same-length-3 : tie.Need-same-length-3
-same-length-3 c = search needs
-
-same-length-4 : tie.Need-same-length-4
-same-length-4 c = search needs
-
-returns-2 : tie.Need-returns-2
-returns-2 c = search needs
-
 slice-reshare-prefix-propagate-properties : tie.Need-slice-reshare-prefix-propagate-properties
 slice-reshare-prefix-propagate-properties c =
     let put = c .before .before .before .before .before .before .before .before .before .before .before .before .before .before .before .bytes-of in
@@ -74,27 +35,6 @@ slice-aggregate-propagate-properties : tie.Need-slice-aggregate-propagate-proper
 slice-aggregate-propagate-properties c =
     let put = c .before .before .before .before .before .before .before .before .before .before .before .before .before .before .before .before .bytes-of in
     put-length (c .before .before .before .before .before .before .before .before .before .before .before .before .a .given .1) (put .last .1 .0) (put .ensures .1)
-
-propagate-properties-requires : tie.Need-propagate-properties-requires
-propagate-properties-requires c κs = search needs
-
-of-plan-requires : tie.Need-of-plan-requires
-of-plan-requires c κs = search needs
-
-cast-compared : tie.Need-cast-compared
-cast-compared c = search needs
-
-compared-requires : tie.Need-compared-requires
-compared-requires c κs = search needs
-
-same-length-5 : tie.Need-same-length-5
-same-length-5 c = search needs
-
-same-length-6 : tie.Need-same-length-6
-same-length-6 c = search needs
-
-same-length-7 : tie.Need-same-length-7
-same-length-7 c = search needs
 
 returns-3 : tie.Need-returns-3
 returns-3 c =
@@ -111,26 +51,26 @@ pub compared-spec : {M : Type 1} → statement M
 compared-spec =
     tie.close
     (tie.spec
-    field-requires
-    bytes-of-requires
-    enum-known-a
-    enum-told
-    same-length
-    returns
-    laid-out-requires
-    enum-known-b
-    enum-told-2
-    same-length-2
-    same-length-3
-    same-length-4
-    returns-2
+    (λ c κs. search needs)
+    (λ c κs. search needs)
+    (λ c. search needs)
+    (λ c. search needs)
+    (λ c. search needs)
+    (λ c. search needs)
+    (λ c κs. search needs)
+    (λ c. search needs)
+    (λ c. search needs)
+    (λ c. search needs)
+    (λ c. search needs)
+    (λ c. search needs)
+    (λ c. search needs)
     slice-reshare-prefix-propagate-properties
     slice-aggregate-propagate-properties
-    propagate-properties-requires
-    of-plan-requires
-    cast-compared
-    compared-requires
-    same-length-5
-    same-length-6
-    same-length-7
+    (λ c κs. search needs)
+    (λ c κs. search needs)
+    (λ c. search needs)
+    (λ c κs. search needs)
+    (λ c. search needs)
+    (λ c. search needs)
+    (λ c. search needs)
     returns-3)

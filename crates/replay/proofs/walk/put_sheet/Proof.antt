@@ -1,9 +1,11 @@
 -- `replay::walk::put_sheet` meets its contract: what `bytes_of` put at the start of the rest stands at the start of the slot.
 -- Assumes nothing.
-use Prim.Native.Nat.{ℕ, _-_, _*_}
+use Prim.Native.Nat.{ℕ, _-_}
 use lib.ListN.{length, take, drop}
 use mathlib.Core.Path.{_≡_, subst}
 use denote.Ref.{now}
+use Rattle.base.specs.Form.{narrow}
+use Rattle.plan.specs.Walk.{slotAt}
 use Rattle.lines.specs.declared.Held.{Held}
 use Rattle.lines.specs.Bytes.{Puts, fieldBytes}
 use Rattle.replay.proofs.Buffers.{slot-told}
@@ -12,60 +14,33 @@ use borrow.Author.Needs.{needs}
 use Rattle.replay.proofs.walk.put_sheet.Statement.{statement}
 use Rattle.replay.proofs.walk.put_sheet.Tie as tie
 
-mul-start : tie.Need-mul-start
-mul-start c = search needs
-
 returns : tie.Need-returns
 returns c = λ e. let z : _≡_ {A = ℕ} 0 1 = cc in absurd (omega arith)
 
-sub-bytes-of : tie.Need-sub-bytes-of
-sub-bytes-of c = search needs
-
-part-bytes-of-start : tie.Need-part-bytes-of-start
-part-bytes-of-start c = search needs
-
-part-bytes-of-end : tie.Need-part-bytes-of-end
-part-bytes-of-end c = search needs
-
-bytes-of-requires : tie.Need-bytes-of-requires
-bytes-of-requires c κs = search needs
-
-enum-known-held : tie.Need-enum-known-held
-enum-known-held c = search needs
-
-enum-told : tie.Need-enum-told
-enum-told c = search needs
-
-same-length : tie.Need-same-length
-same-length c = search needs
-
 returns-2 : tie.Need-returns-2
 returns-2 c = λ e. let z : _≡_ {A = ℕ} 0 1 = cc in absurd (omega arith)
-
-same-length-2 : tie.Need-same-length-2
-same-length-2 c = search needs
 
 returns-3 : tie.Need-returns-3
 returns-3 c = λ e.
     let put = c .before .before .before .before .before in
     let a = c .before .before .before .before .before .before .before .before .before .before .args in
     let d = now (a .buf) in
-    let puts = subst (λ (h : Held). Puts h (fieldBytes (now (a .s))) (take (length d - a .k * 1284) (drop (a .k * 1284) d)) (put .bytes-of .last .1 .0)) (c .before .held .given .1) (put .bytes-of .ensures .0) in
+    let puts = subst (λ (h : Held). Puts h (fieldBytes (now (a .s))) (take (length d - slotAt narrow (a .k)) (drop (slotAt narrow (a .k)) d)) (put .bytes-of .last .1 .0)) (c .before .held .given .1) (put .bytes-of .ensures .0) in
     slot-told (now (a .s)) (a .k) d (puts .0) (puts .1) (puts .2) e (puts .3)
 
 pub put-sheet-spec : {M : Type 1} → statement M
 put-sheet-spec =
     tie.close
     (tie.spec
-    mul-start
+    (λ c. search needs)
     returns
-    sub-bytes-of
-    part-bytes-of-start
-    part-bytes-of-end
-    bytes-of-requires
-    enum-known-held
-    enum-told
-    same-length
+    (λ c. search needs)
+    (λ c. search needs)
+    (λ c. search needs)
+    (λ c κs. search needs)
+    (λ c. search needs)
+    (λ c. search needs)
+    (λ c. search needs)
     returns-2
-    same-length-2
+    (λ c. search needs)
     returns-3)

@@ -25,12 +25,6 @@ Inv-loop s slot buf₀ k₀ at₀ buf k at =
 abbrev μ-loop : tie.MeasureT-loop
 μ-loop s slot buf₀ k₀ at₀ buf k at = 32 - k
 
-slice-aggregate-same : tie.Need-slice-aggregate-same Inv-loop μ-loop
-slice-aggregate-same c = search needs
-
-same-requires : tie.Need-same-requires Inv-loop μ-loop
-same-requires c κs = search needs
-
 returns : tie.Need-returns Inv-loop μ-loop
 returns c =
     let none = texts-none (now (c .before .before .before .before .before .args .s)) (c .before .same .ensures .0 (c .if1 .taken)) in
@@ -38,33 +32,6 @@ returns c =
 
 loop-holds : tie.Need-loop-holds Inv-loop μ-loop
 loop-holds c = (search needs, refl, refl, refl)
-
-find-requires : tie.Need-find-requires Inv-loop μ-loop
-find-requires c κs = search needs
-
-sub-put-sheet : tie.Need-sub-put-sheet Inv-loop μ-loop
-sub-put-sheet c = search needs
-
-part-put-sheet-start : tie.Need-part-put-sheet-start Inv-loop μ-loop
-part-put-sheet-start c = search needs
-
-part-put-sheet-end : tie.Need-part-put-sheet-end Inv-loop μ-loop
-part-put-sheet-end c = search needs
-
-put-sheet-requires : tie.Need-put-sheet-requires Inv-loop μ-loop
-put-sheet-requires c κs = search needs
-
-same-length : tie.Need-same-length Inv-loop μ-loop
-same-length c = search needs
-
-returns-2 : tie.Need-returns-2 Inv-loop μ-loop
-returns-2 c = search needs
-
-add-k : tie.Need-add-k Inv-loop μ-loop
-add-k c = search needs
-
-same-length-2 : tie.Need-same-length-2 Inv-loop μ-loop
-same-length-2 c = search needs
 
 returns-3 : tie.Need-returns-3 Inv-loop μ-loop
 returns-3 c =
@@ -77,12 +44,6 @@ returns-3 c =
     let placed = put .ensures (not-false (put .result) (c .before .if2 .left)) in
     (rw all (omega (arith, l .inv .2, ap length last)), rw all (sym (l .inv .3) ∙ rw last (laid-more _ [] _ _ placed ∙ laid-none _ _)))
 
-add-at : tie.Need-add-at Inv-loop μ-loop
-add-at c = search needs
-
-loop-less : tie.Need-loop-less Inv-loop μ-loop
-loop-less c = search needs
-
 loop-again : tie.Need-loop-again Inv-loop μ-loop
 loop-again c =
     let l = c .before .before .before .before .before .before .before .before .before .loop in
@@ -91,34 +52,28 @@ loop-again c =
     let placed = put .ensures (not-false (put .result) (c .before .if2 .left)) in
     (omega (arith, c .before .before .before .before .before .before .before .find .ensures .high), put .kept .1 .1 .0 ∙ l .inv .1, omega (arith, l .inv .2, ap length more), sym (rw more (laid-more _ _ _ _ placed)) ∙ l .inv .3)
 
-same-length-3 : tie.Need-same-length-3 Inv-loop μ-loop
-same-length-3 c = search needs
-
-returns-4 : tie.Need-returns-4 Inv-loop μ-loop
-returns-4 c = search needs
-
 pub put-sheets-spec : {M : Type 1} → statement M
 put-sheets-spec =
     tie.close
     (tie.spec
     Inv-loop
     μ-loop
-    slice-aggregate-same
-    same-requires
+    (λ c. search needs)
+    (λ c κs. search needs)
     returns
     loop-holds
-    find-requires
-    sub-put-sheet
-    part-put-sheet-start
-    part-put-sheet-end
-    put-sheet-requires
-    same-length
-    returns-2
-    add-k
-    same-length-2
+    (λ c κs. search needs)
+    (λ c. search needs)
+    (λ c. search needs)
+    (λ c. search needs)
+    (λ c κs. search needs)
+    (λ c. search needs)
+    (λ c. search needs)
+    (λ c. search needs)
+    (λ c. search needs)
     returns-3
-    add-at
-    loop-less
+    (λ c. search needs)
+    (λ c. search needs)
     loop-again
-    same-length-3
-    returns-4)
+    (λ c. search needs)
+    (λ c. search needs))
