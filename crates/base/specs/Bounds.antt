@@ -1,7 +1,6 @@
 -- What a range's ends are asked by Modulo, Log and Power. base.rs: `lower_int`, `lower_float`, `upper_float`; where the Rust turns a whole bound into a
 -- float to compare it with 0 or 1, the bound is compared as it is, which gives the same answer.
 use mathlib.Core.Bool.{Bool, true, false, not, _&&_, _||_}
-use mathlib.Core.List.{List, [], _∷_}
 use mathlib.Core.Option.{Option, none, some}
 use lib.IntN.{ℤ}
 use lib.Ieee.{Float}

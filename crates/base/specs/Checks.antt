@@ -3,15 +3,14 @@ use mathlib.Core.Bool.{Bool, true, false, cond, not, _&&_, _||_}
 use mathlib.Core.List.{List, [], _∷_}
 use mathlib.Core.Option.{Option, none, some}
 use Prim.Native.Nat.{ℕ, zero, suc, _+_, _-_}
-use lib.IntN.{ℤ}
 use lib.ListN.{length, getD}
 use lib.Dec.{eqb, leb, ltb}
 use lib.Ieee.{Float}
 use lib.Ieee.Scale.{finite}
 use Rattle.bytes.specs.Le.{leAt}
-use Rattle.numbers.specs.Result.{Result, ok, refused, Check, check, checked}
-use Rattle.numbers.specs.Kind.{Kind, Span, whole, float}
-use Rattle.utilities.specs.Lists.{listFrom, every}
+use Rattle.numbers.specs.Result.{Result, ok, Check, check, checked}
+use Rattle.numbers.specs.Kind.{Kind, whole, float}
+use Rattle.utilities.specs.Lists.{every}
 use Rattle.base.specs.Form.{Form, groupCount, listCount, categoryCount, place, byteAt, natureAt, typeAt, nullityAt, releasableAt, notEmptyAt, orderedAt, rowsMarkAt, columnsMarkAt, datasetMarkAt, dimensionalityMarkAt, sampleMarkAt, reservedAt, reservedCount, rowsAt, columnsAt, datasetAt, dimensionalityAt, sampleAt, absentNature, boolListsNature, lastNature, isRangeNature, lastType, boolKey, lastKey, keyAt, lowerAt, upperAt, lengthCalledFor}
 use Rattle.base.specs.Sheet.{Nature, absent, wholeRange, floatRange, wholeLists, boolLists, floatLists, Sheet}
 use Rattle.base.specs.Decode.{listNumber, categoryAt, decode, natureIn}

@@ -6,7 +6,7 @@ use Prim.Native.Nat.{ℕ}
 use lib.IntN.{ℤ}
 use lib.Ieee as Ieee
 use Rattle.numbers.specs.Result.{Result, ok, refused}
-use Rattle.base.specs.Sheet.{Fields, Sheet}
+use Rattle.base.specs.Sheet.{Fields}
 use Rattle.base.specs.Decode.{endAt, asWhole, asFloat}
 use Rattle.base.specs.Encode.{endBytes, wholeBits, floatBits}
 use Rattle.base.specs.declared.Bound.{Bound}

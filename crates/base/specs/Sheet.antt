@@ -1,6 +1,6 @@
 -- What a sheet says, as plain mathematics. 01: "A sheet describes an array: its range or categories, size, origin and marks".
 use mathlib.Core.Bool.{Bool, true, false}
-use mathlib.Core.List.{List, [], _∷_}
+use mathlib.Core.List.{List}
 use mathlib.Core.Option.{Option}
 use Prim.Native.Nat.{ℕ}
 use lib.IntN.{ℤ}

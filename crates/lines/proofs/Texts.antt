@@ -11,7 +11,6 @@ use lib.Seq.{drop-cons, append-snoc, set-at}
 use borrow.Author.Tests.{eq-eqb, ne-eqb}
 use Rattle.lines.specs.declared.Digit.{Digit}
 use Rattle.lines.specs.declared.Digit.the-variants as D
-use Rattle.lines.specs.declared.Number.{Number}
 use Rattle.lines.specs.declared.Number.the-variants as N
 use Rattle.lines.specs.Digits.{hexDigit, joined, numberMore, andDigit, thenMore, numberOf}
 use Rattle.lines.specs.Bytes.{with-byte, bytesIn, fieldBytes}

@@ -1,6 +1,6 @@
 -- Digits and decimal numbers, as ASCII text.
 use Prim.Native.Nat.{ℕ, _+_, _*_, _-_, _^_, _<_}
-use mathlib.Core.Bool.{Bool, true, false, cond, _&&_}
+use mathlib.Core.Bool.{cond, _&&_}
 use mathlib.Core.List.{List, [], _∷_}
 use lib.Dec.{leb, ltb}
 use Rattle.lines.specs.declared.Digit.{Digit}

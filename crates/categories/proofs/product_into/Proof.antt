@@ -21,7 +21,6 @@ use Rattle.utilities.specs.Noted.{Hinting}
 use Rattle.utilities.proofs.Begins.{notes-at, notes-full}
 use Rattle.utilities.proofs.Hints.{hinting-none, hinting-at, hinting-full}
 use Rattle.categories.specs.Categories.{product, ruleOf}
-use Rattle.categories.specs.declared.Product.the-variants as P
 use Rattle.categories.proofs.Pairs.{product-is, row-start, all-end, inRow, inPairs, next-pair, bad-pair, next-row, Storing, storing-start, storing-same, storing-refused, storing-room, storing-noted, storing-full, storing-over, storing-holds, storing-exceeds}
 use Rattle.categories.proofs.product_into.Statement.{statement}
 use Rattle.categories.proofs.product_into.Tie as tie

@@ -1,6 +1,6 @@
 -- `lines::byte` meets its contract: both digits are below 16, so that the byte fits.
 -- Assumes nothing.
-use mathlib.Core.Path.{_≡_, sym, subst, _∙_}
+use mathlib.Core.Path.{sym, subst}
 use Rattle.lines.specs.Digits.{joined, Below}
 use borrow.Author.Needs.{needs}
 use native.Mathlib.Omega.{arith}

@@ -1,6 +1,6 @@
 -- `lines::bytes_of` meets its contract: no field and a field of one byte are told apart here, the others by `pairs`.
 -- Assumes nothing.
-use mathlib.Core.Path.{_≡_, refl, subst}
+use mathlib.Core.Path.{refl, subst}
 use mathlib.Core.List.{List, []}
 use mathlib.Core.Option.{Option}
 use Prim.Native.Nat.{ℕ}

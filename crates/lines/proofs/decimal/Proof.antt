@@ -4,7 +4,6 @@ use Prim.Native.Nat.{_+_, _-_, _^_, _≤_, _<_}
 use mathlib.Core.Path.{_≡_, sym, ap, _∙_}
 use lib.ListN.{length, drop}
 use denote.Ref.{now}
-use Rattle.lines.specs.declared.Number.{Number}
 use Rattle.lines.specs.declared.Number.the-variants as N
 use Rattle.lines.specs.Digits.{thenMore, numberOf}
 use Rattle.lines.proofs.Texts.{number-start, number-none, number-more, number-end, never}

@@ -1,6 +1,5 @@
 -- `lines::hex_digit` meets its contract: at each return the tests that led there are those of the definition.
 -- Assumes nothing.
-use mathlib.Core.Path.{refl}
 use borrow.Author.Tests.{le-leb, lt-leb}
 use Rattle.lines.specs.Digits.{hexDigit}
 use borrow.Author.Needs.{needs}

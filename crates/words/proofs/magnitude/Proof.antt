@@ -1,7 +1,6 @@
 -- `words::magnitude` meets its contract: the complement and one is what is left to 2^64.
 -- Assumes nothing.
 use Prim.Native.Nat.{_^_}
-use mathlib.Core.Path.{sym}
 use borrow.Author.Tests.{lt-ltb, le-ltb}
 use Rattle.words.specs.Signed.{magnitudeOf}
 use borrow.Author.Needs.{needs}
