@@ -5,3 +5,4 @@ pub mod Patterns
 pub mod Appends
 pub mod Deliveries
 pub mod Round
+pub mod Reread

@@ -1,5 +1,7 @@
 // The number types, and arithmetic on 64 signed bits: the exact result, or the answer that it leaves the type.
 ghost use mathlib.Core.Path.{_≡_};
+ghost use mathlib.Core.Bool.{true};
+ghost use Prim.Native.Nat.{_^_, _≤_};
 ghost use lib.IntN.{_+ℤ_, _-ℤ_, _*ℤ_, negℤ, natAbs};
 ghost use Rattle.numbers.specs.Checked.{checkedOf, quotientOf, signed, differ};
 
@@ -10,6 +12,11 @@ pub type Float = f64;
 const GREATEST: Integer = 9223372036854775807;
 
 const LEAST: Integer = -9223372036854775808;
+
+// Of 32 signed bits.
+const HALF_GREATEST: Integer = 2147483647;
+
+const HALF_LEAST: Integer = -2147483648;
 
 pub enum Checked {
     Fits(i64),
@@ -102,7 +109,15 @@ fn with_sign(negative: bool, p: u64) -> Checked
     }
 }
 
-pub fn checked_mul(a: Integer, b: Integer) -> Checked
+// Whether a has 32 signed bits. Promised is what a yes says; a no only costs the division.
+fn is_half(a: Integer) -> bool
+    ensures { λ r. ⌜ (r ≡ true → natAbs a ≤ 2 ^ 31) ⌝ }
+{
+    (HALF_LEAST <= a) & (a <= HALF_GREATEST)
+}
+
+// By magnitudes, for any two numbers. Whether the product fits is a division.
+fn long_mul(a: Integer, b: Integer) -> Checked
     ensures { λ r. ⌜ r ≡ checkedOf (a *ℤ b) ⌝ }
 {
     let m = magnitude(a);
@@ -117,12 +132,25 @@ pub fn checked_mul(a: Integer, b: Integer) -> Checked
     with_sign(negative, m * n)
 }
 
-// Rounded toward zero. A zero divisor has no quotient.
+// Two numbers of 32 signed bits have a product of 64, so that most products need no division.
+pub fn checked_mul(a: Integer, b: Integer) -> Checked
+    ensures { λ r. ⌜ r ≡ checkedOf (a *ℤ b) ⌝ }
+{
+    if is_half(a) & is_half(b) {
+        return Checked::Fits(a * b);
+    }
+    long_mul(a, b)
+}
+
+// Rounded toward zero. A zero divisor has no quotient. A lesser magnitude has quotient 0 by a greater, without a division.
 pub fn checked_div(a: Integer, b: Integer) -> Checked
     ensures { λ r. ⌜ r ≡ quotientOf a b ⌝ }
 {
     let m = magnitude(a);
     let n = magnitude(b);
+    if m < n {
+        return Checked::Fits(0);
+    }
     if n == 0 {
         return Checked::Leaves;
     }

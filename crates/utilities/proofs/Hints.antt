@@ -12,17 +12,17 @@ use borrow.Author.Tests.{eqb-true, eqb-false}
 use Rattle.numbers.specs.Kind.{eqZ}
 use Rattle.numbers.proofs.Choices.{eqZ-no}
 use Rattle.utilities.specs.Lists.{has}
-use Rattle.utilities.specs.Noted.{Hinting, hintAt, held}
+use Rattle.utilities.specs.Noted.{Hinting, hintCount, hintAt, held}
 use Rattle.utilities.specs.declared.Noted.{Noted}
 use Rattle.utilities.specs.declared.Noted.the-variants.{At, Full}
 use Rattle.utilities.proofs.Firsts.{has-append}
 
 -- no value was noted yet
-pub hinting-none : (hints : List ℕ) → length hints ≡ 256 → Hinting hints []
+pub hinting-none : (hints : List ℕ) → length hints ≡ hintCount → Hinting hints []
 unfolding has
 hinting-none hints size = record { size = size; new = λ x e. refl }
 
-pub hint-within : (x : ℤ) → hintAt x < 256
+pub hint-within : (x : ℤ) → hintAt x < hintCount
 hint-within x = omega arith
 
 by-hint : (t : Bool) {P : Type 0} → (t ≡ true → P) → (t ≡ false → P) → P
@@ -30,7 +30,7 @@ by-hint true yes′ no′ = yes′ refl
 by-hint false yes′ no′ = no′ refl
 
 -- one more value, whose hint is set
-pub hinting-added : {hints : List ℕ} {values : List ℤ} (x : ℤ) (h : ℕ) → 0 < h → hintAt x < 256 → Hinting hints values → Hinting (set hints (hintAt x) h) (values ++ (x ∷ []))
+pub hinting-added : {hints : List ℕ} {values : List ℤ} (x : ℤ) (h : ℕ) → 0 < h → hintAt x < hintCount → Hinting hints values → Hinting (set hints (hintAt x) h) (values ++ (x ∷ []))
 unfolding has
 hinting-added {hints} {values} x h some-hint within old =
     record {

@@ -31,13 +31,17 @@ Notes n x before after Full = Lacks n x before after
 
 -- ---- hints
 
+-- one hint for each low byte
+abbrev pub hintCount : ℕ
+hintCount = 256
+
 -- where the hint of a value stands: at its low byte
 abbrev pub hintAt : ℤ → ℕ
-hintAt x = ofZ w64 x % 256
+hintAt x = ofZ w64 x % hintCount
 
 -- a hint of 0 tells that none of the values has its low byte
 pub record Hinting (hints : List ℕ) (values : List ℤ) : Type 0 where
-  pub size : length hints ≡ 256
+  pub size : length hints ≡ hintCount
   pub new : (x : ℤ) → getD hints (hintAt x) 0 ≡ 0 → has eqZ x values ≡ false
 
 -- how many values there are after `note_hinted`

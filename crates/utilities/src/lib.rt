@@ -1,10 +1,11 @@
 // Lists of whole numbers without repeats: first occurrences stay.
 ghost use mathlib.Core.Path.{_≡_};
+ghost use mathlib.Core.List.{[]};
 ghost use Prim.Native.Nat.{_≤_, _<_};
 ghost use lib.ListN.{length, take};
 ghost use Rattle.numbers.specs.Kind.{eqZ};
 ghost use Rattle.utilities.specs.Lists.{has, noted, firsts};
-ghost use Rattle.utilities.specs.Noted.{Begins, Notes, Hinting, hintAt, held};
+ghost use Rattle.utilities.specs.Noted.{Begins, Notes, Hinting, hintCount, hintAt, held};
 
 // Whether x is among the first n values.
 pub fn has(s: &[i64], n: usize, x: i64) -> bool
@@ -45,6 +46,18 @@ pub enum Noted {
 
 // How many hints there are: one for each low byte of a value. A hint is 0 as long as no value with its low byte was noted.
 pub const HINTS: usize = 256;
+
+// No value was noted yet.
+pub fn clear_hints(hints: &mut [u8])
+    requires { ⌜ length (now hints) ≡ hintCount ⌝ }
+    ensures { λ r. ⌜ Hinting (now (hints .exit)) [] ⌝ }
+{
+    let mut i = 0;
+    while i < HINTS {
+        hints[i] = 0;
+        i += 1;
+    }
+}
 
 // Where the hint of x stands.
 fn hint_at(x: i64) -> usize
