@@ -1,5 +1,4 @@
 -- The function with plain parameters that stands above the view, for every other caller: it makes the view by `view_of` and reads through it.
---     Alone     what a function of the slice alone gives back, asks and gives
 --     views     a walk's call of `view_of`: the view that it gives holds the slice passed
 --     exits     the walk's end, at a result that owns only facts
 --     above     the walk taken to the function's contract
@@ -38,7 +37,7 @@ use denote.Triple.Walked.{says, needs, Stays, stay-none-slice, fitsOf, hasOf, wa
 use denote.Exit.{yes}
 use denote.Triple.Clauses.{closing, ensured, lasts}
 use Rattle.base.specs.declared.view.SheetView.{SheetView}
-use Rattle.base.proofs.Reader.{B, token, Result, Reading, at-ended, at-clauses}
+use Rattle.base.proofs.Reader.{B, token, Reading, at-ended, at-clauses}
 use Rattle.base.proofs.view.view_of as of
 use Rattle.base.proofs.view.view_of.Symbol.{name as #view-of}
 
@@ -48,14 +47,6 @@ value s = sliceVal (s .ptr) (length (s .now))
 
 abbrev pub own : Lft → RefT (List ℕ) → Fml
 own κ s = ShrSlice (named 0) κ u8 .own s (value s ∷ [])
-
-pub record Alone : Type 2 where
-  pub result : Result
-  pub Asks : List ℕ → Type 0
-  pub Gives : List ℕ → result .row .Denot → Type 0
-
-abbrev pub alone : Alone → Reading
-alone Y = record { result = Y .result; args = []; kept = tt; stays = tt; Asks = λ κs s a. Y .Asks s; Gives = λ κs s a r. Y .Gives s r }
 
 module _ {M : Type 1} (𝓤 : URA M) (H : Heap 𝓤) (A : Atoms 𝓤) (mem : Memory → SProp 𝓤) (run : Routine → Fun 𝓤) where
   abbrev pub Of : Contract 𝓤

@@ -3,7 +3,7 @@
 --     whole-end, float-end    the end that a bound read from a sheet is
 -- Assumes nothing.
 use mathlib.Core.Path.{_≡_, refl, ap, _∙_}
-use mathlib.Core.Bool.{Bool, true, false, cond, _&&_}
+use mathlib.Core.Bool.{Bool, true, false, cond}
 use mathlib.Core.List.{List, [], _∷_}
 use mathlib.Core.Logic.{⊎-elim}
 use mathlib.Core.Option.{Option, none, some}
@@ -11,7 +11,6 @@ use Prim.Native.Nat.{ℕ}
 use native.Mathlib.Omega.{arith}
 use lib.IntN.{ℤ}
 use lib.Ieee as Ieee
-use lib.Ieee.Scale.{finite}
 use types.Run.{OneOf}
 use denote.Enum.Declared.{tagOf}
 use Rattle.base.specs.Decode.{endAt, asWhole, asFloat}
@@ -49,11 +48,3 @@ module _ {floats : Bool} (at : ℕ) (s : List ℕ) {b : Bound} (e : b ≡ boundA
   unfolding boundAt
   float-end h =
       ap floatEnd e ∙ ap (λ (t : Bool). floatEnd (cond t (ofFloat (endAt asFloat at s)) (ofWhole (endAt asWhole at s)))) h ∙ float-back (endAt asFloat at s)
-
--- a float between the infinities is finite
-pub between : (x : Ieee.Float) → (Ieee.lt (Ieee.inf true) x && Ieee.lt x (Ieee.inf false)) ≡ finite x
-unfolding Ieee.lt
-between Ieee.nan = refl
-between (Ieee.inf true) = refl
-between (Ieee.inf false) = refl
-between (Ieee.fin s m e) = refl

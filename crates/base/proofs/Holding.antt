@@ -1,9 +1,9 @@
 -- A loop that tests the numbers from one place to another and stops at the first that fails. `Holding` is its invariant: what the rest decides is what
 -- the whole decides. Assumes nothing.
 use mathlib.Core.Path.{_≡_, refl, sym, ap, _∙_}
-use mathlib.Core.Bool.{Bool, true, false, cond, not, _&&_}
+use mathlib.Core.Bool.{Bool, true, false, cond, not, _&&_, and-true, and-assoc}
 use Prim.Native.Nat.{ℕ, zero, suc, _+_, _-_, _≤_, _<_}
-use native.Mathlib.Nat.{sub-zero}
+use native.Mathlib.Nat.{sub-zero, add-zero}
 use native.Mathlib.Omega.{arith}
 use lib.Dec.{eqb}
 use borrow.Author.Tests.{not-true, not-false, eqb-true, eqb-false}
@@ -56,6 +56,26 @@ holds-within p (suc n) i k e a b =
     go : (t : Bool) → eqb i k ≡ t → p i ≡ true → (i + 1 ≤ k → p k ≡ true) → p k ≡ true
     go true h here later = ap p (sym (eqb-true i k h)) ∙ here
     go false h here later = let other = eqb-false i k h in later (omega arith)
+
+-- the last test, taken off
+pub holds-last : (p : ℕ → Bool) (n i : ℕ) → holdsFrom (suc n) i p ≡ (holdsFrom n i p && p (i + n))
+unfolding holdsFrom
+holds-last p zero i = rw (and-true, add-zero)
+holds-last p (suc n) i =
+    let next : i + 1 + n ≡ i + suc n = omega arith in
+    ap (λ (t : Bool). p i && t) (holds-last p n (i + 1)) ∙ rw (next, ← and-assoc)
+
+-- two tests, each of all numbers
+pub holds-both : (p q : ℕ → Bool) (n i : ℕ) → (holdsFrom n i p && holdsFrom n i q) ≡ holdsFrom n i (λ k. p k && q k)
+unfolding holdsFrom
+holds-both p q zero i = refl
+holds-both p q (suc n) i = go (p i) (q i) (holdsFrom n (i + 1) p) (holdsFrom n (i + 1) q) ∙ ap (λ (t : Bool). (p i && q i) && t) (holds-both p q n (i + 1))
+  where
+    go : (a b c d : Bool) → ((a && c) && (b && d)) ≡ ((a && b) && (c && d))
+    go false b c d = refl
+    go true true c d = refl
+    go true false true d = refl
+    go true false false d = refl
 
 -- a test of every value of a list that is made number by number
 pub every-from : {X : Type 0} (p : X → Bool) (f : ℕ → X) (n i : ℕ) → every p (listFrom n i f) ≡ holdsFrom n i (λ k. p (f k))

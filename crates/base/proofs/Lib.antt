@@ -1,6 +1,11 @@
 -- What the proofs of several functions, and of the crates above, cite.
 pub mod Flags
 pub mod Holding
+pub mod Gathering
+pub mod Falling
+pub mod Words
+pub mod Finite
+pub mod Marked
 pub mod Passed
 pub mod Permitted
 pub mod Ends
@@ -12,3 +17,7 @@ pub mod ThroughFurther
 pub mod Readings
 pub mod Above
 pub mod Straight
+pub mod Forms
+pub mod Stands
+pub mod Groups
+pub mod Zeros

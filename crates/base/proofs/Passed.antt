@@ -12,16 +12,13 @@ use lib.ListN.{length}
 use lib.Dec.{eqb, ltb}
 use borrow.Author.Tests.{ltb-false, eqb-true, not-false}
 use Rattle.numbers.specs.Result.{ok, refused, checked}
-use Rattle.base.specs.Form.{Form, narrow, natureAt, byteAt, isRangeNature, groupCount, listCount, categoryCount, entriesAt, lengthCalledFor, longest}
+use Rattle.base.specs.Form.{Form, natureAt, byteAt, isRangeNature, groupCount, listCount, categoryCount, entriesAt, lengthCalledFor}
 use Rattle.base.specs.Decode.{decode, natureIn}
 use Rattle.base.specs.Checks.{sizesFail, fieldsFail, boundsFail, read}
 use Rattle.base.specs.Code.{codeOf}
 use Rattle.base.specs.Sized.{SizesIn, Sized, GroupsFit, RangeFits, ListsFit}
 use Rattle.base.specs.declared.Sizes.{Sizes}
 use Rattle.base.proofs.Flags.{or-no}
-
-pub longest-is : longest narrow ≡ 1284
-longest-is = refl
 
 module _ (F : Form) (s : List ℕ) where
   pub passed : sizesFail F s ≡ false → Sized F s (groupCount F s) (listCount F s) (categoryCount F s)

@@ -1,9 +1,10 @@
 -- What a sheet that passed 4 is known to be.
+--     fields-by         4 by its two parts, the nature and what stands before its arrays
 --     permitted         each part of check 4 holds
 --     columns-within    a column count that is present is within its limits
 -- Assumes nothing.
-use mathlib.Core.Path.{_≡_}
-use mathlib.Core.Bool.{Bool, true, false, cond, _&&_, _||_}
+use mathlib.Core.Path.{_≡_, sym}
+use mathlib.Core.Bool.{Bool, true, false, cond, not, _&&_, _||_}
 use mathlib.Core.List.{List}
 use mathlib.Core.Option.{Option, none, some}
 use Prim.Native.Nat.{ℕ, _≤_, _<_}
@@ -14,7 +15,8 @@ use Rattle.bytes.specs.Le.{leAt}
 use Rattle.base.specs.Form.{Form, place, byteAt, columnsMarkAt, columnsAt, rowsMarkAt, rowsAt, datasetMarkAt, datasetAt, dimensionalityMarkAt, dimensionalityAt, sampleMarkAt, sampleAt}
 use Rattle.base.specs.Decode.{optionAt, fieldsIn}
 use Rattle.base.specs.Checks.{bytesPermitted, valuesPermitted, fieldPermitted, columnsPermitted, groupsPermitted, naturePermitted, fieldsFail}
-use Rattle.base.proofs.Flags.{and-both}
+use Rattle.base.specs.Entries.{headFails}
+use Rattle.base.proofs.Flags.{and-both, not-both}
 
 pub record Permitted (F : Form) (s : List ℕ) : Type 0 where
   pub bytes : bytesPermitted F s ≡ true
@@ -23,6 +25,10 @@ pub record Permitted (F : Form) (s : List ℕ) : Type 0 where
   pub nature : naturePermitted F s ≡ true
 
 module _ (F : Form) (s : List ℕ) where
+  pub fields-by : fieldsFail F s ≡ (headFails F s || not (naturePermitted F s))
+  unfolding fieldsFail
+  fields-by = sym (not-both (bytesPermitted F s && valuesPermitted F s && groupsPermitted F s) (naturePermitted F s))
+
   pub permitted : fieldsFail F s ≡ false → Permitted F s
   unfolding fieldsFail
   permitted e =

@@ -1,29 +1,23 @@
 -- What each reader through the view asks and gives: its contract, for the laws of `Through` and `ThroughFurther` and for the walks above the view. Assumes nothing.
 use mathlib.Core.Path.{_≡_, refl}
-use mathlib.Core.Bool.{not}
 use Prim.Native.Nat.{_+_, _<_, _≤_}
-use lib.Dec.{eqb}
 use lib.ListN.{length, getD}
 use lib.Ieee.{binary64}
 use mir.Syntax.{Width, w8, w32, w64, tyInt, tyBool, tyFloat}
-use mir.Val.{vint, vbool}
-use denote.Plain.{UInt, uint-tells, uint-makes, uint-lawful, bool-tells, bool-makes, bool-lawful}
+use mir.Val.{vbool}
+use denote.Plain.{UInt, uint-makes, uint-lawful, bool-tells, bool-makes, bool-lawful}
 use denote.Floats.{FloatOf, float-lawful, float-makes}
 use denote.Signed.{SInt, sint-lawful, sint-makes}
 use denote.Builtin.{bool}
 use denote.Enum.Laws as EL
 use Rattle.bytes.specs.Le.{leAt}
-use Rattle.base.specs.Decode.{asWhole, asFloat, asBits, optionAt}
-use Rattle.base.specs.Code.{boundAt, signedOf, bitsIn}
+use Rattle.base.specs.Decode.{asWhole, asFloat}
+use Rattle.base.specs.Code.{boundAt}
 use Rattle.base.proofs.Reader.{Result, Scalar}
 use Rattle.base.proofs.Through.{Offset}
 use Rattle.base.proofs.ThroughFurther.{Further}
 use Rattle.base.proofs.Bound as E
 use Rattle.base.proofs.Bound.Laws as E′
-use Rattle.base.proofs.OptionI64 as I
-use Rattle.base.proofs.OptionI64.Laws as I′
-use Rattle.base.proofs.OptionU64 as U
-use Rattle.base.proofs.OptionU64.Laws as U′
 
 -- the types of the results
 abbrev uint : Width → Result
@@ -38,19 +32,13 @@ binary = record { row = FloatOf binary64; mir = tyFloat binary64; typed = λ �
 abbrev truth : Result
 truth = record { row = bool; mir = tyBool; typed = λ 𝓤 H A W r u is. bool-lawful 𝓤 H A W .typed r _ is .0; makes = λ 𝓤 H A W. bool-makes 𝓤 H A W }
 
--- the types of the arguments beside the last offset: a mark's offset, and the kind of a range
-abbrev pub offset : Scalar
-offset = record { type = uint w64; low = vint w64; tells = uint-tells w64; last = λ x. tt; silent = λ x f. refl }
-
+-- the type of the argument beside the offset: the kind of a range
 abbrev pub kind : Scalar
 kind = record { type = truth; low = vbool; tells = bool-tells; last = λ x. tt; silent = λ x f. refl }
 
--- `byte_in`, `flag_in`, `size_in`, `u32_in`, `u64_in`, `i64_in` and `f64_in`
+-- `byte_in`, `size_in`, `u32_in`, `u64_in`, `i64_in` and `f64_in`
 abbrev pub byte : Offset
 byte = record { result = uint w8; Asks = λ s at. at < length s; Gives = λ s at r. r ≡ getD s at 0 }
-
-abbrev pub flag : Offset
-flag = record { result = truth; Asks = λ s at. at < length s; Gives = λ s at r. r ≡ not (eqb (getD s at 0) 0) }
 
 abbrev pub size : Offset
 size = record { result = uint w64; Asks = λ s at. at + 2 ≤ length s; Gives = λ s at r. r ≡ leAt 2 at s }
@@ -67,23 +55,7 @@ whole = record { result = sint w64; Asks = λ s at. at + 8 ≤ length s; Gives =
 abbrev pub float : Offset
 float = record { result = binary; Asks = λ s at. at + 8 ≤ length s; Gives = λ s at r. r ≡ asFloat (leAt 8 at s) }
 
--- `option_i64_in`, `option_u64_in` and `bound_in`
-abbrev pub optionI64 : Further
-optionI64 = record {
-  P = offset;
-  result = record { row = I.the-row; mir = I′.mir; typed = λ 𝓤 H A W r u is. EL.lawful I.the-type I′.the-laws 𝓤 H A W tt .typed r _ is .0; makes = λ 𝓤 H A W. EL.makes I.the-type I′.the-plain 𝓤 H A };
-  Asks = λ s mark at. (mark < length s) × (at + 8 ≤ length s);
-  Gives = λ s mark at r. signedOf r ≡ optionAt asWhole mark at s;
-}
-
-abbrev pub optionU64 : Further
-optionU64 = record {
-  P = offset;
-  result = record { row = U.the-row; mir = U′.mir; typed = λ 𝓤 H A W r u is. EL.lawful U.the-type U′.the-laws 𝓤 H A W tt .typed r _ is .0; makes = λ 𝓤 H A W. EL.makes U.the-type U′.the-plain 𝓤 H A };
-  Asks = λ s mark at. (mark < length s) × (at + 8 ≤ length s);
-  Gives = λ s mark at r. bitsIn r ≡ optionAt asBits mark at s;
-}
-
+-- `bound_in`
 abbrev pub bound : Further
 bound = record {
   P = kind;

@@ -1,4 +1,4 @@
--- The readers that take the view, a further argument and an offset, as a mark's offset and a value's: `f_in(v, x, at)` is `f_at(v.bytes, x, at)`.
+-- The readers that take the view, a further argument, as the kind of a range, and an offset: `f_in(v, x, at)` is `f_at(v.bytes, x, at)`.
 --     Further      the argument's type, and what such a reader gives back, asks and gives
 --     reads        a call of one, in a walk that holds a view
 --     through      every one meets its contract, if its callee does

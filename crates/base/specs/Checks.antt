@@ -11,7 +11,7 @@ use Rattle.bytes.specs.Le.{leAt}
 use Rattle.numbers.specs.Result.{Result, ok, Check, check, checked}
 use Rattle.numbers.specs.Kind.{Kind, whole, float}
 use Rattle.utilities.specs.Lists.{every}
-use Rattle.base.specs.Form.{Form, groupCount, listCount, categoryCount, place, byteAt, natureAt, typeAt, nullityAt, releasableAt, notEmptyAt, orderedAt, rowsMarkAt, columnsMarkAt, datasetMarkAt, dimensionalityMarkAt, sampleMarkAt, reservedAt, reservedCount, rowsAt, columnsAt, datasetAt, dimensionalityAt, sampleAt, absentNature, boolListsNature, lastNature, isRangeNature, lastType, boolKey, lastKey, keyAt, lowerAt, upperAt, lengthCalledFor}
+use Rattle.base.specs.Form.{Form, groupCount, listCount, categoryCount, place, byteAt, natureAt, typeAt, nullityAt, releasableAt, notEmptyAt, orderedAt, rowsMarkAt, columnsMarkAt, datasetMarkAt, dimensionalityMarkAt, sampleMarkAt, reservedAt, reservedCount, fieldsEnd, rowsAt, columnsAt, datasetAt, dimensionalityAt, sampleAt, absentNature, boolListsNature, lastNature, isRangeNature, lastType, boolKey, lastKey, keyAt, lowerAt, upperAt, lengthCalledFor}
 use Rattle.base.specs.Sheet.{Nature, absent, wholeRange, floatRange, wholeLists, boolLists, floatLists, Sheet}
 use Rattle.base.specs.Decode.{listNumber, categoryAt, decode, natureIn}
 
@@ -38,6 +38,9 @@ module _ (F : Form) (s : List ℕ) where
   abbrev pub flagPermitted : ℕ → Bool
   flagPermitted k = leb (byteAt F k s) 1
 
+  abbrev pub gapPermitted : Bool
+  gapPermitted = holdsFrom (F .arraysAt - place F fieldsEnd) (place F fieldsEnd) (λ k. eqb (getD s k 0) 0)
+
   unfoldable pub bytesPermitted : Bool
   bytesPermitted =
       leb (byteAt F natureAt s) lastNature
@@ -47,6 +50,7 @@ module _ (F : Form) (s : List ℕ) where
       && flagPermitted notEmptyAt
       && flagPermitted orderedAt
       && holdsFrom reservedCount reservedAt (λ k. eqb (byteAt F k s) 0)
+      && gapPermitted
 
   -- 4: rows, columns, dataset id, dimensionality and sample proportion
   abbrev pub fieldPermitted : ℕ → ℕ → Bool

@@ -1,10 +1,13 @@
 -- The stored form of a sheet: limits, widths and places, all in this one module. 01: "The sheet, bytes little-endian".
 use mathlib.Core.Bool.{Bool, cond, _||_}
 use mathlib.Core.List.{List}
-use Prim.Native.Nat.{ℕ, _+_, _*_}
+use mathlib.Core.Path.{_≡_}
+use Prim.Native.Nat.{ℕ, _+_, _*_, _≤_, _<_, _^_}
 use lib.ListN.{getD}
 use lib.Dec.{eqb}
 use Rattle.bytes.specs.Le.{leAt}
+use Rattle.base.specs.declared.form.Form.{Form as Named}
+use Rattle.base.specs.declared.form.Form.the-variants as N
 
 -- what one stored form has that another may have otherwise
 pub record Form : Type 0 where
@@ -32,6 +35,25 @@ narrow = record {
   shift = 0;
   arraysAt = 80;
 }
+
+-- 02, S-10: "sizes of 32 bits at 0, 4 and 8, the old bytes 6 to 79 at 12 to 85, two zero bytes, then the same arrays with list numbers of 16 bits";
+-- "Limits are 64 columns, 64 lists, 1,024 categories; groups and text keep theirs". No call takes this form yet, and nothing is promised of it.
+abbrev pub wide : Form
+wide = record {
+  groupLimit = 4;
+  listLimit = 64;
+  categoryLimit = 1024;
+  columnLimit = 64;
+  sizeWidth = 4;
+  numberWidth = 2;
+  shift = 6;
+  arraysAt = 88;
+}
+
+-- the form that the code names
+abbrev pub formOf : Named → Form
+formOf N.Narrow = narrow
+formOf N.Wide = wide
 
 module _ (F : Form) where
   -- 01: "at 0 groups g", "2 list count n", "4 category count t"
@@ -201,3 +223,33 @@ module _ (F : Form) where
   -- 01: "The longest sheet is 1,284 bytes", and so is a plan's slot
   abbrev pub longest : ℕ
   longest = calledFor wholeListsNature (F .groupLimit) (F .listLimit) (F .categoryLimit)
+
+-- a form whose places do not overlap, whose limits fit their widths, and whose derived natures keep to the limits
+pub record Laid (F : Form) : Type 0 where
+  -- the nature stands right behind the three sizes, the arrays behind the last field
+  pub sizes : 3 * F .sizeWidth ≡ place F natureAt
+  pub arrays : place F fieldsEnd ≤ F .arraysAt
+  -- a size and a list number have bytes
+  pub sized : 0 < F .sizeWidth
+  pub numbered : 0 < F .numberWidth
+  -- a sheet may have a list
+  pub listed : 0 < F .listLimit
+  pub groupsCounted : F .groupLimit < 256 ^ F .sizeWidth
+  pub listsCounted : F .listLimit < 256 ^ F .sizeWidth
+  pub categoriesCounted : F .categoryLimit < 256 ^ F .sizeWidth
+  pub listsNumbered : F .listLimit ≤ 256 ^ F .numberWidth
+  -- a derived range has one entry per column
+  pub columnsListed : F .columnLimit ≤ F .listLimit
+  -- the longest sheet is one of categories
+  pub rangesShorter : 18 * F .listLimit ≤ (F .numberWidth + 8) * F .categoryLimit
+
+-- bounds far below the ends of a usize, for the code's sums
+pub record Small (F : Form) : Type 0 where
+  pub groups : F .groupLimit ≤ 4
+  pub lists : F .listLimit ≤ 64
+  pub categories : F .categoryLimit ≤ 1024
+  pub sizes : F .sizeWidth ≤ 4
+  pub sizesRead : 256 ^ F .sizeWidth ≤ 2 ^ 32
+  pub numbers : F .numberWidth ≤ 2
+  pub shifted : F .shift ≤ 6
+  pub arrays : F .arraysAt ≤ 88

@@ -1,23 +1,9 @@
 // The stored form of a sheet: limits, places and numbers, as specs/Form.antt has them. The code has them from here alone.
 ghost use mathlib.Core.Path.{_≡_};
-ghost use Prim.Native.Nat.{_^_, _≤_, _<_};
-ghost use Rattle.base.specs.Form.{narrow, isRangeNature, partitionAt, keyAt, lowerAt, upperAt, numberAt, valueAt, calledFor};
+ghost use Prim.Native.Nat.{_+_, _*_, _^_, _≤_, _<_};
+ghost use Rattle.base.specs.Form.{formOf, place, fieldsEnd, isRangeNature, entriesAt, partitionAt, keyAt, lowerAt, upperAt, numberAt, valueAt, calledFor};
 
-// Limits of the sizes and of the columns.
-pub const GROUP_LIMIT: usize = 4;
-
-pub const LIST_LIMIT: usize = 16;
-
-pub const CATEGORY_LIMIT: usize = 128;
-
-pub const COLUMN_LIMIT: u64 = 16;
-
-// The sizes, 16 bits each.
-pub const GROUPS_AT: usize = 0;
-
-pub const LISTS_AT: usize = 2;
-
-pub const CATEGORIES_AT: usize = 4;
+// ---- what every form has: places as 01 has them, which a form may shift, and widths
 
 // One byte each.
 pub const NATURE_AT: usize = 6;
@@ -67,9 +53,10 @@ pub const SAMPLE_AT: usize = 64;
 
 pub const NODE_AT: usize = 72;
 
-// Where the arrays begin, and the bytes that one element of each takes.
-pub const ARRAYS_AT: usize = 80;
+// The place behind the last field.
+pub const FIELDS_END: usize = 80;
 
+// The bytes that one element of an array takes.
 pub const PARTITION_WIDTH: usize = 4;
 
 pub const KEY_WIDTH: usize = 9;
@@ -80,14 +67,7 @@ pub const END_WIDTH: usize = 9;
 
 pub const ENTRY_WIDTH: usize = 2 * END_WIDTH;
 
-pub const NUMBER_WIDTH: usize = 1;
-
 pub const VALUE_WIDTH: usize = 8;
-
-pub const CATEGORY_WIDTH: usize = NUMBER_WIDTH + VALUE_WIDTH;
-
-// The longest sheet, and a plan's slot.
-pub const LONGEST: usize = ARRAYS_AT + GROUP_WIDTH * GROUP_LIMIT + CATEGORY_WIDTH * CATEGORY_LIMIT;
 
 // Natures.
 pub const ABSENT_NATURE: u8 = 0;
@@ -123,57 +103,211 @@ pub fn is_range(nature: u8) -> bool
     (nature == WHOLE_RANGE) | (nature == FLOAT_RANGE)
 }
 
-// ---- places in the arrays; the limits keep them far from the ends of a usize
+// ---- what a form has of its own
 
-pub fn partition_at(i: usize) -> usize
-    requires { ⌜ i ≤ narrow .groupLimit ⌝ }
-    ensures { λ r. ⌜ r ≡ partitionAt narrow i ⌝ }
-{
-    ARRAYS_AT + PARTITION_WIDTH * i
+// A stored form: 01's, and the wider one of 02, S-10, which no call takes yet.
+pub enum Form {
+    Narrow,
+    Wide,
 }
 
-pub fn key_at(g: usize, i: usize) -> usize
-    requires { ⌜ (g ≤ narrow .groupLimit) × (i ≤ narrow .groupLimit) ⌝ }
-    ensures { λ r. ⌜ r ≡ keyAt narrow g i ⌝ }
-{
-    ARRAYS_AT + PARTITION_WIDTH * g + KEY_WIDTH * i
-}
+// 01's form.
+pub const NARROW_GROUP_LIMIT: usize = 4;
 
-pub fn lower_at(g: usize, i: usize) -> usize
-    requires { ⌜ (g ≤ narrow .groupLimit) × (i ≤ narrow .listLimit) ⌝ }
-    ensures { λ r. ⌜ r ≡ lowerAt narrow g i ⌝ }
-{
-    ARRAYS_AT + GROUP_WIDTH * g + END_WIDTH * i
-}
+pub const NARROW_LIST_LIMIT: usize = 16;
 
-pub fn upper_at(g: usize, n: usize, i: usize) -> usize
-    requires { ⌜ (g ≤ narrow .groupLimit) × (n ≤ narrow .listLimit) × (i ≤ narrow .listLimit) ⌝ }
-    ensures { λ r. ⌜ r ≡ upperAt narrow g n i ⌝ }
-{
-    ARRAYS_AT + GROUP_WIDTH * g + END_WIDTH * n + END_WIDTH * i
-}
+pub const NARROW_CATEGORY_LIMIT: usize = 128;
 
-pub fn number_at(g: usize, i: usize) -> usize
-    requires { ⌜ (g ≤ narrow .groupLimit) × (i ≤ narrow .categoryLimit) ⌝ }
-    ensures { λ r. ⌜ r ≡ numberAt narrow g i ⌝ }
-{
-    ARRAYS_AT + GROUP_WIDTH * g + NUMBER_WIDTH * i
-}
+pub const NARROW_COLUMN_LIMIT: u64 = 16;
 
-pub fn value_at(g: usize, t: usize, i: usize) -> usize
-    requires { ⌜ (g ≤ narrow .groupLimit) × (t ≤ narrow .categoryLimit) × (i ≤ narrow .categoryLimit) ⌝ }
-    ensures { λ r. ⌜ r ≡ valueAt narrow g t i ⌝ }
-{
-    ARRAYS_AT + GROUP_WIDTH * g + NUMBER_WIDTH * t + VALUE_WIDTH * i
-}
+pub const NARROW_SIZE_WIDTH: usize = 2;
 
-// The length that a nature and sizes of 16 bits call for.
-pub fn called_for(nature: u8, g: usize, n: usize, t: usize) -> usize
-    requires { ⌜ (g < 2 ^ 16) × (n < 2 ^ 16) × (t < 2 ^ 16) ⌝ }
-    ensures { λ r. ⌜ r ≡ calledFor narrow nature g n t ⌝ }
-{
-    if is_range(nature) {
-        return ARRAYS_AT + GROUP_WIDTH * g + ENTRY_WIDTH * n;
+pub const NARROW_NUMBER_WIDTH: usize = 1;
+
+pub const NARROW_SHIFT: usize = 0;
+
+pub const NARROW_ARRAYS_AT: usize = 80;
+
+// The longest sheet, and a plan's slot.
+pub const NARROW_LONGEST: usize = NARROW_ARRAYS_AT
+    + GROUP_WIDTH * NARROW_GROUP_LIMIT
+    + (NARROW_NUMBER_WIDTH + VALUE_WIDTH) * NARROW_CATEGORY_LIMIT;
+
+// The longest sheet of a range.
+pub const NARROW_RANGE_LONGEST: usize = NARROW_ARRAYS_AT
+    + GROUP_WIDTH * NARROW_GROUP_LIMIT
+    + ENTRY_WIDTH * NARROW_LIST_LIMIT;
+
+// The buffers of a derived nature: lowers or uppers of a range, which are also room enough for all list numbers; values of categories.
+pub const NARROW_ENDS_ROOM: usize = END_WIDTH * NARROW_LIST_LIMIT;
+
+pub const NARROW_VALUES_ROOM: usize = VALUE_WIDTH * NARROW_CATEGORY_LIMIT;
+
+// 02's wider form.
+const WIDE_GROUP_LIMIT: usize = 4;
+
+const WIDE_LIST_LIMIT: usize = 64;
+
+const WIDE_CATEGORY_LIMIT: usize = 1024;
+
+const WIDE_COLUMN_LIMIT: u64 = 64;
+
+const WIDE_SIZE_WIDTH: usize = 4;
+
+pub const WIDE_NUMBER_WIDTH: usize = 2;
+
+const WIDE_SHIFT: usize = 6;
+
+const WIDE_ARRAYS_AT: usize = 88;
+
+pub const WIDE_FIELDS_END: usize = FIELDS_END + WIDE_SHIFT;
+
+impl Form {
+    // ---- limits and widths, each with a bound for the sums above it
+
+    pub fn group_limit(self) -> usize
+        ensures { λ r. ⌜ (r ≡ formOf self .groupLimit) × (r ≤ 4) ⌝ }
+    {
+        match self {
+            Form::Narrow => NARROW_GROUP_LIMIT,
+            Form::Wide => WIDE_GROUP_LIMIT,
+        }
     }
-    ARRAYS_AT + GROUP_WIDTH * g + CATEGORY_WIDTH * t
+
+    pub fn list_limit(self) -> usize
+        ensures { λ r. ⌜ (r ≡ formOf self .listLimit) × (r ≤ 64) ⌝ }
+    {
+        match self {
+            Form::Narrow => NARROW_LIST_LIMIT,
+            Form::Wide => WIDE_LIST_LIMIT,
+        }
+    }
+
+    pub fn category_limit(self) -> usize
+        ensures { λ r. ⌜ (r ≡ formOf self .categoryLimit) × (r ≤ 1024) ⌝ }
+    {
+        match self {
+            Form::Narrow => NARROW_CATEGORY_LIMIT,
+            Form::Wide => WIDE_CATEGORY_LIMIT,
+        }
+    }
+
+    pub fn column_limit(self) -> u64
+        ensures { λ r. ⌜ (r ≡ formOf self .columnLimit) × (r ≤ 64) ⌝ }
+    {
+        match self {
+            Form::Narrow => NARROW_COLUMN_LIMIT,
+            Form::Wide => WIDE_COLUMN_LIMIT,
+        }
+    }
+
+    pub fn size_width(self) -> usize
+        ensures { λ r. ⌜ (r ≡ formOf self .sizeWidth) × (r ≤ 4) ⌝ }
+    {
+        match self {
+            Form::Narrow => NARROW_SIZE_WIDTH,
+            Form::Wide => WIDE_SIZE_WIDTH,
+        }
+    }
+
+    pub fn shift(self) -> usize
+        ensures { λ r. ⌜ (r ≡ formOf self .shift) × (r ≤ 6) ⌝ }
+    {
+        match self {
+            Form::Narrow => NARROW_SHIFT,
+            Form::Wide => WIDE_SHIFT,
+        }
+    }
+
+    pub fn arrays_at(self) -> usize
+        ensures { λ r. ⌜ (r ≡ formOf self .arraysAt) × (r ≤ 88) ⌝ }
+    {
+        match self {
+            Form::Narrow => NARROW_ARRAYS_AT,
+            Form::Wide => WIDE_ARRAYS_AT,
+        }
+    }
+
+    // ---- places
+
+    // A field's place in this form, from its place in 01.
+    pub fn place(self, k: usize) -> usize
+        requires { ⌜ k ≤ fieldsEnd ⌝ }
+        ensures { λ r. ⌜ r ≡ place (formOf self) k ⌝ }
+    {
+        k + self.shift()
+    }
+
+    // The bytes of i list numbers: the one product of a width and a count.
+    pub fn numbers_length(self, i: usize) -> usize
+        requires { ⌜ i < 2 ^ 32 ⌝ }
+        ensures { λ r. ⌜ (r ≡ formOf self .numberWidth * i) × (r ≤ 2 * i) ⌝ }
+    {
+        match self {
+            Form::Narrow => NARROW_NUMBER_WIDTH * i,
+            Form::Wide => WIDE_NUMBER_WIDTH * i,
+        }
+    }
+
+    // Where a range's or a category's arrays begin.
+    pub fn entries_at(self, g: usize) -> usize
+        requires { ⌜ g < 2 ^ 32 ⌝ }
+        ensures { λ r. ⌜ (r ≡ entriesAt (formOf self) g) × (r ≤ 88 + 13 * g) ⌝ }
+    {
+        self.arrays_at() + GROUP_WIDTH * g
+    }
+
+    pub fn partition_at(self, i: usize) -> usize
+        requires { ⌜ i ≤ formOf self .groupLimit ⌝ }
+        ensures { λ r. ⌜ r ≡ partitionAt (formOf self) i ⌝ }
+    {
+        self.arrays_at() + PARTITION_WIDTH * i
+    }
+
+    pub fn key_at(self, g: usize, i: usize) -> usize
+        requires { ⌜ (g ≤ formOf self .groupLimit) × (i ≤ formOf self .groupLimit) ⌝ }
+        ensures { λ r. ⌜ r ≡ keyAt (formOf self) g i ⌝ }
+    {
+        self.arrays_at() + PARTITION_WIDTH * g + KEY_WIDTH * i
+    }
+
+    pub fn upper_at(self, g: usize, n: usize, i: usize) -> usize
+        requires { ⌜ (g ≤ formOf self .groupLimit) × (n ≤ formOf self .listLimit) × (i ≤ formOf self .listLimit) ⌝ }
+        ensures { λ r. ⌜ r ≡ upperAt (formOf self) g n i ⌝ }
+    {
+        self.entries_at(g) + END_WIDTH * n + END_WIDTH * i
+    }
+
+    pub fn lower_at(self, g: usize, i: usize) -> usize
+        requires { ⌜ (g ≤ formOf self .groupLimit) × (i ≤ formOf self .listLimit) ⌝ }
+        ensures { λ r. ⌜ r ≡ lowerAt (formOf self) g i ⌝ }
+    {
+        self.entries_at(g) + END_WIDTH * i
+    }
+
+    pub fn number_at(self, g: usize, i: usize) -> usize
+        requires { ⌜ (g ≤ formOf self .groupLimit) × (i ≤ formOf self .categoryLimit) ⌝ }
+        ensures { λ r. ⌜ r ≡ numberAt (formOf self) g i ⌝ }
+    {
+        self.entries_at(g) + self.numbers_length(i)
+    }
+
+    pub fn value_at(self, g: usize, t: usize, i: usize) -> usize
+        requires { ⌜ (g ≤ formOf self .groupLimit) × (t ≤ formOf self .categoryLimit) × (i ≤ formOf self .categoryLimit) ⌝ }
+        ensures { λ r. ⌜ r ≡ valueAt (formOf self) g t i ⌝ }
+    {
+        self.entries_at(g) + self.numbers_length(t) + VALUE_WIDTH * i
+    }
+
+    // The length that a nature and sizes of 32 bits call for.
+    pub fn called_for(self, nature: u8, g: usize, n: usize, t: usize) -> usize
+        requires { ⌜ (g < 2 ^ 32) × (n < 2 ^ 32) × (t < 2 ^ 32) ⌝ }
+        ensures { λ r. ⌜ r ≡ calledFor (formOf self) nature g n t ⌝ }
+    {
+        let start = self.entries_at(g);
+        if is_range(nature) {
+            return start + ENTRY_WIDTH * n;
+        }
+        start + self.numbers_length(t) + VALUE_WIDTH * t
+    }
 }

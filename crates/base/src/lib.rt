@@ -4,18 +4,20 @@ ghost use Prim.Native.Nat.{_+_, _≤_, _<_};
 ghost use lib.ListN.{length, getD};
 ghost use Rattle.bytes.specs.Le.{leAt};
 ghost use Rattle.bytes.specs.Wrote.{Wrote};
-ghost use Rattle.base.specs.Form.{narrow, place, byteAt, natureAt, nodeAt, lengthCalledFor};
-ghost use Rattle.base.specs.Decode.{asWhole, asFloat, fieldsIn};
+ghost use Rattle.base.specs.Form.{formOf, place, byteAt, natureAt, nodeAt, fieldsEnd, lengthCalledFor};
+ghost use Rattle.base.specs.Decode.{asWhole, asFloat, asBits, flagAt, fieldAt, listNumber, fieldsIn};
 ghost use Rattle.base.specs.Checks.{read};
 ghost use Rattle.base.specs.Components.{numberOf, componentOf, familyOf, isUnary};
-ghost use Rattle.base.specs.Code.{boundAt, boundBytes, headFields, codeOf};
-ghost use Rattle.base.specs.Sized.{SizesIn};
+ghost use Rattle.base.specs.Code.{boundAt, boundBytes, signedOf, bitsIn, headFields, codeOf};
+ghost use Rattle.base.specs.Sized.{SizesIn, ListsFit};
 
-pub mod form; // limits, places and numbers
+pub mod form; // the stored forms: limits, places and numbers
 pub mod refusals; // their numbers
-mod checks; // 3 and 4
-mod order; // 5
+mod checks; // 3 and 4, and 5 beside 4
+mod spans; // 4 and 5 of a range
 mod view; // one view of a sheet's bytes
+
+use form::Form;
 
 // 01: "A bound is absent, a whole number or a float".
 pub enum Bound {
@@ -178,6 +180,13 @@ pub fn byte_at(s: &[u8], at: usize) -> u8
     view::byte_in(view::view_of(s), at)
 }
 
+fn u16_at(s: &[u8], at: usize) -> usize
+    requires { ⌜ at + 2 ≤ length (now s) ⌝ }
+    ensures { λ r. ⌜ r ≡ leAt 2 at (now (s .entry)) ⌝ }
+{
+    view::size_in(view::view_of(s), at)
+}
+
 pub fn u32_at(s: &[u8], at: usize) -> u32
     requires { ⌜ at + 4 ≤ length (now s) ⌝ }
     ensures { λ r. ⌜ r ≡ leAt 4 at (now (s .entry)) ⌝ }
@@ -237,88 +246,169 @@ pub fn put_bound(buf: &mut [u8], at: usize, b: Bound) -> usize
     }
 }
 
-// ---- the sizes and the fields
+// ---- the sizes
 
-// The sizes that a sheet begins with.
-pub fn sizes_at(s: &[u8]) -> Sizes
-    requires { ⌜ narrow .arraysAt ≤ length (now s) ⌝ }
-    ensures { λ r. ⌜ SizesIn narrow (now (s .entry)) r ⌝ }
+fn size_at(f: Form, s: &[u8], at: usize) -> usize
+    requires { ⌜ at + formOf f .sizeWidth ≤ length (now s) ⌝ }
+    ensures { λ r. ⌜ r ≡ leAt (formOf f .sizeWidth) at (now (s .entry)) ⌝ }
 {
-    let v = view::view_of(s);
-    Sizes {
-        groups: view::size_in(v, form::GROUPS_AT),
-        lists: view::size_in(v, form::LISTS_AT),
-        categories: view::size_in(v, form::CATEGORIES_AT),
+    match f {
+        Form::Narrow => u16_at(s, at),
+        Form::Wide => u32_at(s, at) as usize,
     }
 }
 
-// The length that a sheet's sizes call for, whether or not they keep to their limits.
-pub fn length_called_for(s: &[u8]) -> usize
-    requires { ⌜ narrow .arraysAt ≤ length (now s) ⌝ }
-    ensures { λ r. ⌜ r ≡ lengthCalledFor narrow (now (s .entry)) ⌝ }
+pub fn sizes_at(f: Form, s: &[u8]) -> Sizes
+    requires { ⌜ formOf f .arraysAt ≤ length (now s) ⌝ }
+    ensures { λ r. ⌜ SizesIn (formOf f) (now (s .entry)) r ⌝ }
 {
-    let sizes = sizes_at(s);
+    let w = f.size_width();
+    Sizes {
+        groups: size_at(f, s, 0),
+        lists: size_at(f, s, w),
+        categories: size_at(f, s, 2 * w),
+    }
+}
+
+// The length that the sizes call for, whether or not they keep to their limits.
+pub fn length_called_for(f: Form, s: &[u8]) -> usize
+    requires { ⌜ formOf f .arraysAt ≤ length (now s) ⌝ }
+    ensures { λ r. ⌜ r ≡ lengthCalledFor (formOf f) (now (s .entry)) ⌝ }
+{
+    let sizes = sizes_at(f, s);
     let g = sizes.groups;
     let n = sizes.lists;
     let t = sizes.categories;
-    form::called_for(nature_of(s), g, n, t)
+    f.called_for(nature_of(f, s), g, n, t)
 }
 
-// The fields of one value; what they are worth is for the checks to say.
-pub fn read_head(s: &[u8]) -> Head
-    requires { ⌜ narrow .arraysAt ≤ length (now s) ⌝ }
-    ensures { λ r. ⌜ headFields r ≡ fieldsIn narrow (now (s .entry)) ⌝ }
+// ---- a field, by its place in 01
+
+fn byte_in(f: Form, s: &[u8], k: usize) -> u8
+    requires { ⌜ (formOf f .arraysAt ≤ length (now s)) × (k < fieldsEnd) ⌝ }
+    ensures { λ r. ⌜ r ≡ byteAt (formOf f) k (now (s .entry)) ⌝ }
 {
-    let v = view::view_of(s);
+    byte_at(s, f.place(k))
+}
+
+fn u32_in(f: Form, s: &[u8], k: usize) -> u32
+    requires { ⌜ (formOf f .arraysAt ≤ length (now s)) × (k + 4 ≤ fieldsEnd) ⌝ }
+    ensures { λ r. ⌜ r ≡ leAt 4 (place (formOf f) k) (now (s .entry)) ⌝ }
+{
+    u32_at(s, f.place(k))
+}
+
+fn u64_in(f: Form, s: &[u8], k: usize) -> u64
+    requires { ⌜ (formOf f .arraysAt ≤ length (now s)) × (k + 8 ≤ fieldsEnd) ⌝ }
+    ensures { λ r. ⌜ r ≡ leAt 8 (place (formOf f) k) (now (s .entry)) ⌝ }
+{
+    u64_at(s, f.place(k))
+}
+
+fn i64_in(f: Form, s: &[u8], k: usize) -> i64
+    requires { ⌜ (formOf f .arraysAt ≤ length (now s)) × (k + 8 ≤ fieldsEnd) ⌝ }
+    ensures { λ r. ⌜ r ≡ asWhole (leAt 8 (place (formOf f) k) (now (s .entry))) ⌝ }
+{
+    i64_at(s, f.place(k))
+}
+
+fn flag_in(f: Form, s: &[u8], k: usize) -> bool
+    requires { ⌜ (formOf f .arraysAt ≤ length (now s)) × (k < fieldsEnd) ⌝ }
+    ensures { λ r. ⌜ r ≡ flagAt (formOf f) (now (s .entry)) k ⌝ }
+{
+    byte_in(f, s, k) != 0
+}
+
+// The signed 64 bits at k, where the mark is not 0.
+fn option_i64_in(f: Form, s: &[u8], mark: usize, k: usize) -> OptionI64
+    requires { ⌜ (formOf f .arraysAt ≤ length (now s)) × (mark < fieldsEnd) × (k + 8 ≤ fieldsEnd) ⌝ }
+    ensures { λ r. ⌜ signedOf r ≡ fieldAt (formOf f) (now (s .entry)) asWhole mark k ⌝ }
+{
+    if byte_in(f, s, mark) == 0 {
+        return OptionI64::Absent;
+    }
+    OptionI64::Is(i64_in(f, s, k))
+}
+
+// The 64 bits at k, where the mark is not 0.
+fn option_u64_in(f: Form, s: &[u8], mark: usize, k: usize) -> OptionU64
+    requires { ⌜ (formOf f .arraysAt ≤ length (now s)) × (mark < fieldsEnd) × (k + 8 ≤ fieldsEnd) ⌝ }
+    ensures { λ r. ⌜ bitsIn r ≡ fieldAt (formOf f) (now (s .entry)) asBits mark k ⌝ }
+{
+    if byte_in(f, s, mark) == 0 {
+        return OptionU64::Absent;
+    }
+    OptionU64::Is(u64_in(f, s, k))
+}
+
+pub fn read_head(f: Form, s: &[u8]) -> Head
+    requires { ⌜ formOf f .arraysAt ≤ length (now s) ⌝ }
+    ensures { λ r. ⌜ headFields r ≡ fieldsIn (formOf f) (now (s .entry)) ⌝ }
+{
     Head {
-        data_type: view::byte_in(v, form::TYPE_AT),
-        nullity: view::flag_in(v, form::NULLITY_AT),
-        releasable: view::flag_in(v, form::RELEASABLE_AT),
-        not_empty: view::flag_in(v, form::NOT_EMPTY_AT),
-        ordered: view::flag_in(v, form::ORDERED_AT),
-        c_stability: view::u32_in(v, form::C_STABILITY_AT),
-        aggregator: view::u32_in(v, form::AGGREGATOR_AT),
-        rows: view::option_i64_in(v, form::ROWS_MARK_AT, form::ROWS_AT),
-        columns: view::option_u64_in(v, form::COLUMNS_MARK_AT, form::COLUMNS_AT),
-        dataset: view::option_i64_in(v, form::DATASET_MARK_AT, form::DATASET_AT),
-        dimensionality: view::option_i64_in(
-            v,
-            form::DIMENSIONALITY_MARK_AT,
-            form::DIMENSIONALITY_AT,
-        ),
-        sample: view::option_u64_in(v, form::SAMPLE_MARK_AT, form::SAMPLE_AT),
+        data_type: byte_in(f, s, form::TYPE_AT),
+        nullity: flag_in(f, s, form::NULLITY_AT),
+        releasable: flag_in(f, s, form::RELEASABLE_AT),
+        not_empty: flag_in(f, s, form::NOT_EMPTY_AT),
+        ordered: flag_in(f, s, form::ORDERED_AT),
+        c_stability: u32_in(f, s, form::C_STABILITY_AT),
+        aggregator: u32_in(f, s, form::AGGREGATOR_AT),
+        rows: option_i64_in(f, s, form::ROWS_MARK_AT, form::ROWS_AT),
+        columns: option_u64_in(f, s, form::COLUMNS_MARK_AT, form::COLUMNS_AT),
+        dataset: option_i64_in(f, s, form::DATASET_MARK_AT, form::DATASET_AT),
+        dimensionality: option_i64_in(f, s, form::DIMENSIONALITY_MARK_AT, form::DIMENSIONALITY_AT),
+        sample: option_u64_in(f, s, form::SAMPLE_MARK_AT, form::SAMPLE_AT),
     }
 }
 
 // The number of the node that made the sheet.
-pub fn node_at(s: &[u8]) -> i64
-    requires { ⌜ narrow .arraysAt ≤ length (now s) ⌝ }
-    ensures { λ r. ⌜ r ≡ asWhole (leAt 8 (place narrow nodeAt) (now (s .entry))) ⌝ }
+pub fn node_at(f: Form, s: &[u8]) -> i64
+    requires { ⌜ formOf f .arraysAt ≤ length (now s) ⌝ }
+    ensures { λ r. ⌜ r ≡ asWhole (leAt 8 (place (formOf f) nodeAt) (now (s .entry))) ⌝ }
 {
-    i64_at(s, form::NODE_AT)
+    i64_in(f, s, form::NODE_AT)
 }
 
 // The number of its nature.
-pub fn nature_of(s: &[u8]) -> u8
-    requires { ⌜ narrow .arraysAt ≤ length (now s) ⌝ }
-    ensures { λ r. ⌜ r ≡ byteAt narrow natureAt (now (s .entry)) ⌝ }
+pub fn nature_of(f: Form, s: &[u8]) -> u8
+    requires { ⌜ formOf f .arraysAt ≤ length (now s) ⌝ }
+    ensures { λ r. ⌜ r ≡ byteAt (formOf f) natureAt (now (s .entry)) ⌝ }
 {
-    byte_at(s, form::NATURE_AT)
+    byte_in(f, s, form::NATURE_AT)
+}
+
+// ---- a category's list number
+
+// List number i of t. Each arm computes its place, so that a loop over the numbers, once it is made for one form, goes by a known stride.
+pub fn list_number(f: Form, s: &[u8], g: usize, n: usize, t: usize, i: usize) -> usize
+    requires { ⌜ ListsFit (formOf f) (now s) g n t × (i < t) ⌝ }
+    ensures { λ r. ⌜ r ≡ listNumber (formOf f) (now (s .entry)) g i ⌝ }
+{
+    let start = f.entries_at(g);
+    match f {
+        Form::Narrow => bytes::wide(byte_at(s, start + form::NARROW_NUMBER_WIDTH * i)),
+        Form::Wide => u16_at(s, start + form::WIDE_NUMBER_WIDTH * i),
+    }
 }
 
 // ---- checks 3 to 5
 
 // 0, or the number of the first check of 3 to 5 that the sheet breaks.
-pub fn check_sheet(s: &[u8]) -> u32
-    ensures { λ r. ⌜ r ≡ codeOf (read narrow (now (s .entry))) ⌝ }
+pub fn check_sheet(f: Form, s: &[u8]) -> u32
+    ensures { λ r. ⌜ r ≡ codeOf (read (formOf f) (now (s .entry))) ⌝ }
 {
-    if checks::sizes_fail(s) {
+    if checks::sizes_fail(f, s) {
         return refusals::SIZES;
     }
-    if checks::fields_fail(s) {
+    if checks::head_fails(f, s) {
         return refusals::FIELDS;
     }
-    if order::bounds_fail(s) {
+    // One pass finds both: 5 is answered where all of 4 has passed.
+    let nature = checks::nature_faults(f, s);
+    if nature.fields {
+        return refusals::FIELDS;
+    }
+    if nature.bounds {
         return refusals::BOUNDS;
     }
     0

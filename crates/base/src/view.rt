@@ -1,16 +1,12 @@
 // 01: "A sheet is read through one view of its bytes". The borrow checker covers no function over a struct that holds a
 // slice, so each is proved by hand; each leaves the work to a covered function of the slice and an offset.
 ghost use mathlib.Core.Path.{_≡_};
-ghost use mathlib.Core.Bool.{not};
 ghost use Prim.Native.Nat.{_+_, _≤_, _<_};
 ghost use lib.ListN.{length, getD};
-ghost use lib.Dec.{eqb};
 ghost use Rattle.bytes.specs.Le.{leAt};
-ghost use Rattle.base.specs.Decode.{asWhole, asFloat, asBits, optionAt};
-ghost use Rattle.base.specs.Code.{boundAt, signedOf, bitsIn};
+ghost use Rattle.base.specs.Decode.{asWhole, asFloat};
+ghost use Rattle.base.specs.Code.{boundAt};
 use crate::Bound;
-use crate::OptionI64;
-use crate::OptionU64;
 
 pub struct SheetView<'a> {
     pub bytes: &'a [u8],
@@ -31,41 +27,12 @@ fn byte_at(s: &[u8], at: usize) -> u8
     s[at]
 }
 
-fn flag_at(s: &[u8], at: usize) -> bool
-    requires { ⌜ at < length (now s) ⌝ }
-    ensures { λ r. ⌜ r ≡ not (eqb (getD (now (s .entry)) at 0) 0) ⌝ }
-{
-    s[at] != 0
-}
-
 // A size, of 16 bits.
 fn size_at(s: &[u8], at: usize) -> usize
     requires { ⌜ at + 2 ≤ length (now s) ⌝ }
     ensures { λ r. ⌜ r ≡ leAt 2 at (now (s .entry)) ⌝ }
 {
     bytes::u16_at(s, at) as usize
-}
-
-// The signed 64 bits at `at`, where the byte at `mark` is not 0.
-fn option_i64_at(s: &[u8], mark: usize, at: usize) -> OptionI64
-    requires { ⌜ (mark < length (now s)) × (at + 8 ≤ length (now s)) ⌝ }
-    ensures { λ r. ⌜ signedOf r ≡ optionAt asWhole mark at (now (s .entry)) ⌝ }
-{
-    if s[mark] == 0 {
-        return OptionI64::Absent;
-    }
-    OptionI64::Is(bytes::i64_at(s, at))
-}
-
-// The 64 bits at `at`, where the byte at `mark` is not 0.
-fn option_u64_at(s: &[u8], mark: usize, at: usize) -> OptionU64
-    requires { ⌜ (mark < length (now s)) × (at + 8 ≤ length (now s)) ⌝ }
-    ensures { λ r. ⌜ bitsIn r ≡ optionAt asBits mark at (now (s .entry)) ⌝ }
-{
-    if s[mark] == 0 {
-        return OptionU64::Absent;
-    }
-    OptionU64::Is(bytes::u64_at(s, at))
 }
 
 // A bound: a mark, and 64 bits that are a float's or a signed number's.
@@ -90,13 +57,6 @@ pub fn byte_in<'a>(v: SheetView<'a>, at: usize) -> u8
     ensures { λ r. ⌜ r ≡ getD (now (v .entry .bytes)) at 0 ⌝ }
 {
     byte_at(v.bytes, at)
-}
-
-pub fn flag_in<'a>(v: SheetView<'a>, at: usize) -> bool
-    requires { ⌜ at < length (now (v .bytes)) ⌝ }
-    ensures { λ r. ⌜ r ≡ not (eqb (getD (now (v .entry .bytes)) at 0) 0) ⌝ }
-{
-    flag_at(v.bytes, at)
 }
 
 pub fn size_in<'a>(v: SheetView<'a>, at: usize) -> usize
@@ -132,20 +92,6 @@ pub fn f64_in<'a>(v: SheetView<'a>, at: usize) -> f64
     ensures { λ r. ⌜ r ≡ asFloat (leAt 8 at (now (v .entry .bytes))) ⌝ }
 {
     bytes::f64_at(v.bytes, at)
-}
-
-pub fn option_i64_in<'a>(v: SheetView<'a>, mark: usize, at: usize) -> OptionI64
-    requires { ⌜ (mark < length (now (v .bytes))) × (at + 8 ≤ length (now (v .bytes))) ⌝ }
-    ensures { λ r. ⌜ signedOf r ≡ optionAt asWhole mark at (now (v .entry .bytes)) ⌝ }
-{
-    option_i64_at(v.bytes, mark, at)
-}
-
-pub fn option_u64_in<'a>(v: SheetView<'a>, mark: usize, at: usize) -> OptionU64
-    requires { ⌜ (mark < length (now (v .bytes))) × (at + 8 ≤ length (now (v .bytes))) ⌝ }
-    ensures { λ r. ⌜ bitsIn r ≡ optionAt asBits mark at (now (v .entry .bytes)) ⌝ }
-{
-    option_u64_at(v.bytes, mark, at)
 }
 
 pub fn bound_in<'a>(v: SheetView<'a>, float: bool, at: usize) -> Bound

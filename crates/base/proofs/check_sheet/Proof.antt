@@ -3,6 +3,7 @@ use mathlib.Core.Path.{sym, _∙_}
 use borrow.Author.Needs.{needs}
 use Rattle.numbers.specs.Result.{checked}
 use Rattle.base.specs.Checks.{read}
+use Rattle.base.proofs.Permitted.{fields-by}
 use Rattle.base.proofs.check_sheet.Statement.{statement}
 use Rattle.base.proofs.check_sheet.Tie as tie
 
@@ -10,39 +11,67 @@ returns : tie.Need-returns
 unfolding read checked
 returns c = rw (sym (c .before .sizes-fail .ensures) ∙ c .if1 .taken)
 
-fields-fail-requires : tie.Need-fields-fail-requires
-fields-fail-requires c κs = sym (c .before .sizes-fail .ensures) ∙ c .if1 .left
+head-fails-requires : tie.Need-head-fails-requires
+head-fails-requires c κs = sym (c .before .sizes-fail .ensures) ∙ c .if1 .left
 
 returns-2 : tie.Need-returns-2
 unfolding read checked
 returns-2 c =
     let b = c .before .before in
-    rw (sym (b .before .sizes-fail .ensures) ∙ b .if1 .left, sym (c .before .fields-fail .ensures) ∙ c .if2 .taken)
+    rw (sym (b .before .sizes-fail .ensures) ∙ b .if1 .left, fields-by, sym (c .before .head-fails .ensures) ∙ c .if2 .taken)
 
-bounds-fail-requires : tie.Need-bounds-fail-requires
-bounds-fail-requires c κs = sym (c .before .before .before .sizes-fail .ensures) ∙ c .before .before .if1 .left
+nature-faults-requires : tie.Need-nature-faults-requires
+nature-faults-requires c κs = let b = c .before .before in sym (b .before .sizes-fail .ensures) ∙ b .if1 .left
 
 returns-3 : tie.Need-returns-3
 unfolding read checked
 returns-3 c =
-    let f = c .before .before in
-    let b = f .before .before in
+    let h = c .before .before in
+    let b = h .before .before in
     rw (
       sym (b .before .sizes-fail .ensures) ∙ b .if1 .left,
-      sym (f .before .fields-fail .ensures) ∙ f .if2 .left,
-      sym (c .before .bounds-fail .ensures) ∙ c .if3 .taken,
+      fields-by,
+      sym (h .before .head-fails .ensures) ∙ h .if2 .left,
+      sym (c .before .nature-faults .ensures .fields) ∙ c .if3 .taken,
     )
 
 returns-4 : tie.Need-returns-4
 unfolding read checked
 returns-4 c =
-    let f = c .before .before in
-    let b = f .before .before in
+    let n = c .before in
+    let h = n .before .before in
+    let b = h .before .before in
     rw (
       sym (b .before .sizes-fail .ensures) ∙ b .if1 .left,
-      sym (f .before .fields-fail .ensures) ∙ f .if2 .left,
-      sym (c .before .bounds-fail .ensures) ∙ c .if3 .left,
+      fields-by,
+      sym (h .before .head-fails .ensures) ∙ h .if2 .left,
+      sym (n .before .nature-faults .ensures .fields) ∙ n .if3 .left,
+      sym (n .before .nature-faults .ensures .bounds) ∙ c .if4 .taken,
+    )
+
+returns-5 : tie.Need-returns-5
+unfolding read checked
+returns-5 c =
+    let n = c .before in
+    let h = n .before .before in
+    let b = h .before .before in
+    rw (
+      sym (b .before .sizes-fail .ensures) ∙ b .if1 .left,
+      fields-by,
+      sym (h .before .head-fails .ensures) ∙ h .if2 .left,
+      sym (n .before .nature-faults .ensures .fields) ∙ n .if3 .left,
+      sym (n .before .nature-faults .ensures .bounds) ∙ c .if4 .left,
     )
 
 pub check-sheet-spec : {M : Type 1} → statement M
-check-sheet-spec = tie.close (tie.spec (λ c κs. search needs) returns fields-fail-requires returns-2 bounds-fail-requires returns-3 returns-4)
+check-sheet-spec =
+    tie.close
+    (tie.spec
+    (λ c κs. search needs)
+    returns
+    head-fails-requires
+    returns-2
+    nature-faults-requires
+    returns-3
+    returns-4
+    returns-5)

@@ -7,22 +7,25 @@ use Rattle.base.proofs.checks.bytes_permitted.Tie as tie
 returns : tie.Need-returns
 unfolding bytesPermitted
 returns c =
-    let d = c .before .before .before in
+    let c₁ = c .before in
+    let d = c₁ .before .before .before in
     let e = d .before .before in
     rw (
       e .before .nature-of .ensures,
-      e .byte-at .ensures,
-      d .before .byte-at2 .ensures,
-      d .byte-at3 .ensures,
-      c .before .before .byte-at4 .ensures,
-      c .before .byte-at5 .ensures,
-      c .reserved-permitted .ensures,
+      e .byte-in .ensures,
+      d .before .byte-in2 .ensures,
+      d .byte-in3 .ensures,
+      c₁ .before .before .byte-in4 .ensures,
+      c₁ .before .byte-in5 .ensures,
+      c₁ .reserved-permitted .ensures,
+      c .gap-permitted .ensures,
     )
 
 pub bytes-permitted-spec : {M : Type 1} → statement M
 bytes-permitted-spec =
     tie.close
     (tie.spec
+    (λ c κs. search needs)
     (λ c κs. search needs)
     (λ c κs. search needs)
     (λ c κs. search needs)

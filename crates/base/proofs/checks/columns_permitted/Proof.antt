@@ -4,7 +4,7 @@ use Rattle.base.proofs.checks.columns_permitted.Statement.{statement}
 use Rattle.base.proofs.checks.columns_permitted.Tie as tie
 
 returns : tie.Need-returns
-returns c = rw (c .before .u64-at .ensures, c .byte-at .ensures)
+returns c = rw (c .before .before .u64-in .ensures, c .before .byte-in .ensures, c .column-limit .ensures .0)
 
 pub columns-permitted-spec : {M : Type 1} → statement M
-columns-permitted-spec = tie.close (tie.spec (λ c κs. search needs) (λ c κs. search needs) returns)
+columns-permitted-spec = tie.close (tie.spec (λ c κs. search needs) (λ c κs. search needs) (λ c κs. search needs) returns)

@@ -3,23 +3,23 @@ use mathlib.Core.Path.{ap}
 use Prim.Native.Nat.{ℕ, _≤_, _-_}
 use denote.Ref.{now}
 use borrow.Author.Needs.{needs}
-use Rattle.base.specs.Form.{narrow}
+use Rattle.base.specs.Form.{formOf}
 use Rattle.base.specs.Checks.{holdsFrom, keyPermitted, groupsPermitted}
 use Rattle.base.proofs.Holding.{Holding, holding-from-zero, holding-more, holding-failed, holding-done}
 use Rattle.base.proofs.checks.groups_permitted.Statement.{statement}
 use Rattle.base.proofs.checks.groups_permitted.Tie as tie
 
 abbrev Inv-loop : tie.InvT-loop
-Inv-loop s g i₀ i = (i ≤ g) × Holding (keyPermitted narrow s) g i (groupsPermitted narrow s)
+Inv-loop f s g i₀ i = (i ≤ g) × Holding (keyPermitted (formOf f) s) g i (groupsPermitted (formOf f) s)
 
 abbrev μ-loop : tie.MeasureT-loop
-μ-loop s g i₀ i = g - i
+μ-loop f s g i₀ i = g - i
 
 loop-holds : tie.Need-loop-holds Inv-loop μ-loop
 unfolding groupsPermitted
 loop-holds c =
     let a = c .before .args in
-    let p = keyPermitted narrow (now (a .s)) in
+    let p = keyPermitted (formOf (a .f)) (now (a .s)) in
     (search needs, holding-from-zero p (a .g) (ap (λ (k : ℕ). holdsFrom k 0 p) (c .before .pre .groups)))
 
 returns : tie.Need-returns Inv-loop μ-loop

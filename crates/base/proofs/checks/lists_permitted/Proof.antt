@@ -1,55 +1,44 @@
--- `base::checks::lists_permitted` meets its contract: each turn tests one number. Assumes nothing.
-use mathlib.Core.Path.{ap, ap₂}
-use mathlib.Core.Bool.{Bool, _&&_}
-use Prim.Native.Nat.{ℕ, _≤_, _-_}
+-- `base::checks::lists_permitted` meets its contract: numbers and values are tested apart, and values only where they are bools. Assumes nothing.
+use mathlib.Core.Path.{_≡_, sym, ap₂, _∙_}
+use mathlib.Core.Bool.{Bool, true, false, not, _&&_, _||_, and-true}
+use mathlib.Core.List.{List}
+use Prim.Native.Nat.{ℕ}
+use lib.Dec.{eqb}
 use denote.Ref.{now}
+use borrow.Author.Tests.{eq-eqb, ne-eqb}
 use borrow.Author.Needs.{needs}
-use Rattle.base.specs.Form.{narrow}
-use Rattle.base.specs.Checks.{holdsFrom, numberPermitted, valuePermitted, listsPermitted}
-use Rattle.base.proofs.Holding.{Holding, holding-from-zero, holding-more, holding-failed, holding-done}
+use Rattle.base.specs.Form.{Form, formOf, byteAt, natureAt, categoryCount, boolListsNature}
+use Rattle.base.specs.Checks.{holdsFrom, numberPermitted, listsPermitted}
+use Rattle.base.specs.Entries.{boolPermitted}
+use Rattle.base.proofs.Holding.{holds-both}
 use Rattle.base.proofs.checks.lists_permitted.Statement.{statement}
 use Rattle.base.proofs.checks.lists_permitted.Tie as tie
 
-abbrev Inv-loop : tie.InvT-loop
-Inv-loop s g n t i₀ i = (i ≤ t) × Holding (λ k. numberPermitted narrow s k && valuePermitted narrow s k) t i (listsPermitted narrow s)
+module _ (F : Form) (s : List ℕ) {t : ℕ} (count : t ≡ categoryCount F s) where
+  -- the test of a value, where b says whether they are bools
+  tested : (b : Bool) → eqb (byteAt F natureAt s) boolListsNature ≡ b → holdsFrom t 0 (λ i. numberPermitted F s i && (not b || boolPermitted F s i)) ≡ listsPermitted F s
+  unfolding listsPermitted
+  tested b e = ap₂ (λ (n : ℕ) (b : Bool). holdsFrom n 0 (λ i. numberPermitted F s i && (not b || boolPermitted F s i))) count (sym e)
 
-abbrev μ-loop : tie.MeasureT-loop
-μ-loop s g n t i₀ i = t - i
+  bools : byteAt F natureAt s ≡ boolListsNature → (holdsFrom t 0 (numberPermitted F s) && holdsFrom t 0 (boolPermitted F s)) ≡ listsPermitted F s
+  bools e = holds-both (numberPermitted F s) (boolPermitted F s) t 0 ∙ tested true (eq-eqb (byteAt F natureAt s) boolListsNature e)
 
-loop-holds : tie.Need-loop-holds Inv-loop μ-loop
-unfolding listsPermitted
-loop-holds c =
-    let a = c .before .args in
-    let s = now (a .s) in
-    let p : ℕ → Bool = λ k. numberPermitted narrow s k && valuePermitted narrow s k in
-    (search needs, holding-from-zero p (a .t) (ap (λ (k : ℕ). holdsFrom k 0 p) (c .before .pre .categories)))
+  others : (byteAt F natureAt s ≡ boolListsNature → ⊥) → holdsFrom t 0 (numberPermitted F s) ≡ listsPermitted F s
+  others e = (λ j. holdsFrom t 0 (λ i. sym (and-true (numberPermitted F s i)) j)) ∙ tested false (ne-eqb (byteAt F natureAt s) boolListsNature e)
 
-returns : tie.Need-returns Inv-loop μ-loop
+returns : tie.Need-returns
 returns c =
-    let t = c .before .before .before in
-    let e = ap₂ _&&_ (c .before .before .number-permitted .ensures) (c .before .value-permitted .ensures) in
-    holding-failed (t .before .loop .inv .1) (t .loop-test .taken) e (c .if1 .taken)
+    let k = c .before .before in
+    let b = k .before .before .before in
+    ap₂ _&&_ (k .before .numbers-permitted .ensures) (c .bools-permitted .ensures)
+    ∙ bools (formOf (b .args .f)) (now (b .args .s)) (b .pre .categories) (sym (k .nature-of .ensures) ∙ c .before .if1 .taken)
 
-loop-again : tie.Need-loop-again Inv-loop μ-loop
-loop-again c =
-    let t = c .before .before .before in
-    let e = ap₂ _&&_ (c .before .before .number-permitted .ensures) (c .before .value-permitted .ensures) in
-    (search needs, holding-more (t .before .loop .inv .1) (t .loop-test .taken) e (c .if1 .left))
-
-returns-2 : tie.Need-returns-2 Inv-loop μ-loop
-returns-2 c = holding-done (c .before .loop .inv .1) (c .loop-test .left)
+returns-2 : tie.Need-returns-2
+returns-2 c =
+    let k = c .before in
+    let b = k .before .before .before in
+    k .before .numbers-permitted .ensures
+    ∙ others (formOf (b .args .f)) (now (b .args .s)) (b .pre .categories) (λ e. c .if1 .left (k .nature-of .ensures ∙ e))
 
 pub lists-permitted-spec : {M : Type 1} → statement M
-lists-permitted-spec =
-    tie.close
-    (tie.spec
-    Inv-loop
-    μ-loop
-    loop-holds
-    (λ c κs. search needs)
-    (λ c κs. search needs)
-    returns
-    (λ c. search needs)
-    (λ c. search needs)
-    loop-again
-    returns-2)
+lists-permitted-spec = tie.close (tie.spec (λ c κs. search needs) (λ c κs. search needs) (λ c κs. search needs) returns returns-2)

@@ -9,12 +9,12 @@ unfolding valuesPermitted
 returns c =
     let b = c .before .before .before in
     rw (
-      b .before .before .mark-permitted .ensures,
-      b .before .mark-permitted2 .ensures,
+      b .before .before .field-permitted .ensures,
+      b .before .field-permitted2 .ensures,
       b .columns-permitted .ensures,
-      c .before .before .mark-permitted3 .ensures,
-      c .before .mark-permitted4 .ensures,
-      c .mark-permitted5 .ensures,
+      c .before .before .field-permitted3 .ensures,
+      c .before .field-permitted4 .ensures,
+      c .field-permitted5 .ensures,
     )
 
 pub values-permitted-spec : {M : Type 1} → statement M
