@@ -1,4 +1,2 @@
 pub mod Written
 pub mod Room
-pub mod Laid
-pub mod WellFormed

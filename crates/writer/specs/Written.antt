@@ -6,7 +6,7 @@ use lib.ListN.{length, take, replicate}
 use Rattle.bytes.specs.Le.{leBytes}
 use Rattle.numbers.specs.Result.{Result, ok, refused, andThen}
 use Rattle.numbers.specs.Kind.{Span}
-use Rattle.base.specs.Form.{Form, narrow, place, fieldsEnd}
+use Rattle.base.specs.Form.{Form, place, fieldsEnd}
 use Rattle.base.specs.Sheet.{Group, Nature, absent, wholeRange, floatRange, wholeLists, boolLists, floatLists, Fields}
 use Rattle.base.specs.Decode.{asBits}
 use Rattle.base.specs.Encode.{joined, endBytes, wholeBits, floatBits, numbersFrom, markBytes, valueBytes, groupBytes, natureNumber, entryCount, valueCount}
@@ -92,21 +92,22 @@ abbrev pub derivedIn : Derived → List ℕ → List ℕ → Result Written
 derivedIn (D.Nature p) f s = ok (partsIn p f s)
 derivedIn (D.Refused k) f s = refused k
 
--- how long the two buffers are: lowers of a range or list numbers, and uppers or values
-abbrev pub firstRoom : ℕ
-firstRoom = 9 * narrow .listLimit
+module _ (F : Form) where
+  -- the bytes that the two arrays have at most: of a range, and of categories
+  abbrev pub endsRoom : ℕ
+  endsRoom = 18 * F .listLimit
 
-abbrev pub secondRoom : ℕ
-secondRoom = 8 * narrow .categoryLimit
+  abbrev pub listsRoom : ℕ
+  listsRoom = (F .numberWidth + 8) * F .categoryLimit
 
--- a nature's parts keep to the sheet's limits and to the two buffers
-pub record Placed (p : Parts) : Type 0 where
-  pub entries : p .entries ≤ narrow .listLimit
-  pub values : p .values ≤ narrow .categoryLimit
-  pub first : p .first ≤ firstRoom
-  pub second : p .second ≤ secondRoom
-  pub both : p .first + p .second ≤ (narrow .numberWidth + 8) * narrow .categoryLimit
+  -- a nature's parts keep to the sheet's limits, to the two buffers, and together to `room`
+  pub record Placed (room : ℕ) (first second : List ℕ) (p : Parts) : Type 0 where
+    pub entries : p .entries ≤ F .listLimit
+    pub values : p .values ≤ F .categoryLimit
+    pub first-held : p .first ≤ length first
+    pub second-held : p .second ≤ length second
+    pub both : p .first + p .second ≤ room
 
-abbrev pub Within : Derived → Type 0
-Within (D.Nature p) = Placed p
-Within (D.Refused k) = Unit {0}
+  abbrev pub Within : ℕ → List ℕ → List ℕ → Derived → Type 0
+  Within room first second (D.Nature p) = Placed room first second p
+  Within room first second (D.Refused k) = Unit {0}

@@ -1,20 +1,20 @@
 // Derived natures in two buffers, and the sheet written from one.
 ghost use mathlib.Core.Path.{_≡_};
-ghost use mathlib.Core.List.{_++_};
-ghost use Prim.Native.Nat.{_+_, _*_, _≤_, _<_};
+ghost use Prim.Native.Nat.{_+_, _-_, _*_, _^_, _≤_, _<_};
 ghost use lib.ListN.{length, take, drop};
 ghost use Rattle.bytes.specs.Le.{leBytes};
 ghost use Rattle.bytes.specs.Wrote.{Wrote};
-ghost use Rattle.base.specs.Form.{narrow, groupCount};
+ghost use Rattle.base.specs.Form.{formOf, place, fieldsEnd, groupCount, entriesAt};
 ghost use Rattle.base.specs.Decode.{asBits, groupsIn};
 ghost use Rattle.base.specs.Encode.{wholeBits, flag, mark, bitsOf, markBytes, valueBytes};
 ghost use Rattle.base.specs.Code.{signedOf, bitsIn, headFields};
 ghost use Rattle.writer.specs.Written.{sheetFrom, partsIn};
-ghost use Rattle.writer.specs.Room.{Room, flagBytes, presenceBytes, frontBytes};
+ghost use Rattle.writer.specs.Room.{Room, flagBytes, presenceBytes, countBytes, gapBytes, frontBytes};
 use base::Head;
 use base::OptionI64;
 use base::OptionU64;
 use base::form;
+use base::form::Form;
 
 // A derived nature whose two arrays stand at the start of two lent buffers: lowers and uppers of a range, or list numbers and values of categories.
 pub struct Parts {
@@ -93,17 +93,46 @@ pub fn put_bytes(buf: &mut [u8], at: usize, src: &[u8], from: usize, n: usize) -
     at + n
 }
 
-// Bytes 0 to 5.
-fn put_sizes(buf: &mut [u8], at: usize, groups: u16, entries: usize, values: usize) -> usize
-    requires { ⌜ (at + 6 ≤ length (now buf)) × (entries < 65536) × (values < 65536) ⌝ }
-    ensures { λ r. ⌜ Wrote (now (buf .entry)) at 6 (leBytes 2 groups ++ leBytes 2 entries ++ leBytes 2 values) (now (buf .exit)) r ⌝ }
+// A size: 16 bits or 32.
+fn put_size(f: Form, buf: &mut [u8], at: usize, v: usize) -> usize
+    requires { ⌜ (at + formOf f .sizeWidth ≤ length (now buf)) × (v < 256 ^ formOf f .sizeWidth) ⌝ }
+    ensures { λ r. ⌜ Wrote (now (buf .entry)) at (formOf f .sizeWidth) (leBytes (formOf f .sizeWidth) v) (now (buf .exit)) r ⌝ }
 {
-    let end = bytes::put_u16(buf, at, groups);
-    let end = bytes::put_u16(buf, end, entries as u16);
-    bytes::put_u16(buf, end, values as u16)
+    match f {
+        Form::Narrow => bytes::put_u16(buf, at, v as u16),
+        Form::Wide => bytes::put_u32(buf, at, v as u32),
+    }
 }
 
-// Bytes 6 to 11.
+// A list number: 8 bits or 16.
+pub fn put_number(f: Form, buf: &mut [u8], at: usize, j: usize) -> usize
+    requires { ⌜ (at + formOf f .numberWidth ≤ length (now buf)) × (j < formOf f .listLimit) ⌝ }
+    ensures { λ r. ⌜ Wrote (now (buf .entry)) at (formOf f .numberWidth) (leBytes (formOf f .numberWidth) j) (now (buf .exit)) r ⌝ }
+{
+    match f {
+        Form::Narrow => bytes::put_u8(buf, at, j as u8),
+        Form::Wide => bytes::put_u16(buf, at, j as u16),
+    }
+}
+
+// The sizes, which a sheet begins with.
+fn put_sizes(
+    f: Form,
+    buf: &mut [u8],
+    at: usize,
+    groups: usize,
+    entries: usize,
+    values: usize,
+) -> usize
+    requires { ⌜ (at + 3 * formOf f .sizeWidth ≤ length (now buf)) × (groups ≤ formOf f .groupLimit) × (entries ≤ formOf f .listLimit) × (values ≤ formOf f .categoryLimit) ⌝ }
+    ensures { λ r. ⌜ Wrote (now (buf .entry)) at (3 * formOf f .sizeWidth) (countBytes (formOf f) groups entries values) (now (buf .exit)) r ⌝ }
+{
+    let end = put_size(f, buf, at, groups);
+    let end = put_size(f, buf, end, entries);
+    put_size(f, buf, end, values)
+}
+
+// 01's bytes 6 to 11.
 fn put_flags(buf: &mut [u8], at: usize, nature: u8, head: Head) -> usize
     requires { ⌜ at + 6 ≤ length (now buf) ⌝ }
     ensures { λ r. ⌜ Wrote (now (buf .entry)) at 6 (flagBytes nature (headFields head)) (now (buf .exit)) r ⌝ }
@@ -116,7 +145,7 @@ fn put_flags(buf: &mut [u8], at: usize, nature: u8, head: Head) -> usize
     bytes::put_u8(buf, end, flag_byte(head.ordered))
 }
 
-// Bytes 20 to 24.
+// 01's bytes 20 to 24.
 fn put_presence(buf: &mut [u8], at: usize, head: Head) -> usize
     requires { ⌜ at + 5 ≤ length (now buf) ⌝ }
     ensures { λ r. ⌜ Wrote (now (buf .entry)) at 5 (presenceBytes (headFields head)) (now (buf .exit)) r ⌝ }
@@ -133,7 +162,7 @@ fn put_presence(buf: &mut [u8], at: usize, head: Head) -> usize
     bytes::put_u8(buf, end, plain_mark(sample))
 }
 
-// Bytes 6 to 31; the last 7 are zero.
+// 01's bytes 6 to 31; the last 7 are zero.
 fn put_marks(buf: &mut [u8], at: usize, nature: u8, head: Head) -> usize
     requires { ⌜ at + 26 ≤ length (now buf) ⌝ }
     ensures { λ r. ⌜ Wrote (now (buf .entry)) at 26 (markBytes nature (headFields head)) (now (buf .exit)) r ⌝ }
@@ -147,7 +176,7 @@ fn put_marks(buf: &mut [u8], at: usize, nature: u8, head: Head) -> usize
     bytes::put_u32(buf, end, 0)
 }
 
-// Bytes 32 to 71.
+// 01's bytes 32 to 71.
 fn put_values(buf: &mut [u8], at: usize, head: Head) -> usize
     requires { ⌜ at + 40 ≤ length (now buf) ⌝ }
     ensures { λ r. ⌜ Wrote (now (buf .entry)) at 40 (valueBytes (headFields head)) (now (buf .exit)) r ⌝ }
@@ -164,19 +193,32 @@ fn put_values(buf: &mut [u8], at: usize, head: Head) -> usize
     bytes::put_u64(buf, end, plain_bits(sample))
 }
 
-// The first 80 bytes: what stands before the arrays.
-fn put_front(buf: &mut [u8], groups: u16, p: Parts, head: Head, node: i64) -> usize
-    requires { ⌜ (80 ≤ length (now buf)) × (p .entries < 65536) × (p .values < 65536) ⌝ }
-    ensures { λ r. ⌜ Wrote (now (buf .entry)) 0 80 (frontBytes groups p (headFields head) node) (now (buf .exit)) r ⌝ }
+// The zero bytes between the last field and the arrays: none or two.
+fn put_gap(f: Form, buf: &mut [u8], at: usize) -> usize
+    requires { ⌜ at + (formOf f .arraysAt - place (formOf f) fieldsEnd) ≤ length (now buf) ⌝ }
+    ensures { λ r. ⌜ Wrote (now (buf .entry)) at (formOf f .arraysAt - place (formOf f) fieldsEnd) (gapBytes (formOf f)) (now (buf .exit)) r ⌝ }
 {
-    let end = put_sizes(buf, 0, groups, p.entries, p.values);
+    match f {
+        Form::Narrow => at,
+        Form::Wide => bytes::put_u16(buf, at, 0),
+    }
+}
+
+// All that stands before the arrays.
+fn put_front(f: Form, buf: &mut [u8], groups: usize, p: Parts, head: Head, node: i64) -> usize
+    requires { ⌜ (formOf f .arraysAt ≤ length (now buf)) × (groups ≤ formOf f .groupLimit) × (p .entries ≤ formOf f .listLimit) × (p .values ≤ formOf f .categoryLimit) ⌝ }
+    ensures { λ r. ⌜ Wrote (now (buf .entry)) 0 (formOf f .arraysAt) (frontBytes (formOf f) groups p (headFields head) node) (now (buf .exit)) r ⌝ }
+{
+    let end = put_sizes(f, buf, 0, groups, p.entries, p.values);
     let end = put_marks(buf, end, p.nature, head);
     let end = put_values(buf, end, head);
-    bytes::put_i64(buf, end, node)
+    let end = bytes::put_i64(buf, end, node);
+    put_gap(f, buf, end)
 }
 
 // The sheet with the fields of `head`, the groups of the sheet `source`, and a nature whose arrays stand in `first` and `second`.
 pub fn put_sheet(
+    f: Form,
     buf: &mut [u8],
     p: Parts,
     first: &[u8],
@@ -185,19 +227,14 @@ pub fn put_sheet(
     node: i64,
     source: &[u8],
 ) -> usize
-    requires { ⌜ Room p (now first) (now second) (now source) (now buf) ⌝ }
-    ensures { λ r. ⌜ Wrote (now (buf .entry)) 0 (80 + 13 * groupCount narrow (now (source .entry)) + p .first + p .second) (sheetFrom narrow (headFields head) node (groupsIn narrow (now (source .entry))) (partsIn p (now (first .entry)) (now (second .entry)))) (now (buf .exit)) r ⌝ }
+    requires { ⌜ Room (formOf f) p (now first) (now second) (now source) (now buf) ⌝ }
+    ensures { λ r. ⌜ Wrote (now (buf .entry)) 0 (entriesAt (formOf f) (groupCount (formOf f) (now (source .entry))) + p .first + p .second) (sheetFrom (formOf f) (headFields head) node (groupsIn (formOf f) (now (source .entry))) (partsIn p (now (first .entry)) (now (second .entry)))) (now (buf .exit)) r ⌝ }
 {
-    let sizes = base::sizes_at(source);
+    let sizes = base::sizes_at(f, source);
     let groups = sizes.groups;
-    let end = put_front(buf, groups as u16, p, head, node);
-    let end = put_bytes(
-        buf,
-        end,
-        source,
-        form::ARRAYS_AT,
-        form::GROUP_WIDTH * groups,
-    );
+    let arrays = f.arrays_at();
+    let end = put_front(f, buf, groups, p, head, node);
+    let end = put_bytes(buf, end, source, arrays, form::GROUP_WIDTH * groups);
     let end = put_bytes(buf, end, first, 0, p.first);
     put_bytes(buf, end, second, 0, p.second)
 }

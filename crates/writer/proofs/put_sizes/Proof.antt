@@ -1,6 +1,9 @@
--- `writer::put_sizes` meets its contract: three appends. Assumes nothing.
+-- `writer::put_sizes` meets its contract: three appends of one width; a count within its limit fits that width. Assumes nothing.
+use native.Mathlib.Omega.{arith}
 use borrow.Author.Needs.{needs}
 use Rattle.bytes.proofs.Appends.{and-then}
+use Rattle.base.proofs.Forms.{laid}
+use Rattle.writer.proofs.Copies.{same-size}
 use Rattle.writer.proofs.put_sizes.Statement.{statement}
 use Rattle.writer.proofs.put_sizes.Tie as tie
 
@@ -9,16 +12,14 @@ returns c =
     let third = c .before .before in
     let second = third .before .before .before .before in
     let first = second .before .before .before .before in
-    and-then (and-then (first .put-u16 .ensures) (second .put-u162 .ensures)) (third .put-u163 .ensures)
+    same-size (and-then (and-then (first .put-size .ensures) (second .put-size2 .ensures)) (third .put-size3 .ensures)) (omega arith)
 
 pub put-sizes-spec : {M : Type 1} → statement M
 put-sizes-spec =
     tie.close
     (tie.spec
-    (λ c κs. search needs)
-    (λ c. search needs)
-    (λ c κs. search needs)
-    (λ c. search needs)
-    (λ c κs. search needs)
+    (λ c κs. let l = laid (c .before .before .args .f) in search needs)
+    (λ c κs. let l = laid (c .before .before .before .before .before .before .args .f) in search needs)
+    (λ c κs. let l = laid (c .before .before .before .before .before .before .before .before .before .before .args .f) in search needs)
     (λ c. search needs)
     returns)

@@ -1,4 +1,5 @@
 -- Category lists read back: list j gathers the categories whose list number is j, and those are list j's own.
+--     .. -length    the bytes of lists, and of their parts
 --     own-list      the categories of one list, as list j sees them
 --     earlier       a list before all of those that are filed sees nothing
 --     lists-back    the list of each number
@@ -7,7 +8,7 @@ use mathlib.Core.Path.{_≡_, refl, sym, _∙_}
 use mathlib.Core.Bool.{Bool, true, false, cond}
 use mathlib.Core.List.{List, [], _∷_, _++_, append-nil}
 use Prim.Native.Nat.{ℕ, zero, suc, _+_, _*_, _^_, _<_, _≤_}
-use native.Mathlib.Nat.{zero-add, suc-add, add-zero, mul-zero, mul-add}
+use native.Mathlib.Nat.{zero-add, suc-add, add-zero, mul-zero, mul-add, add-mul}
 use native.Mathlib.Omega.{arith}
 use lib.ListN.{length, getD, length-append}
 use lib.Seq.{ext-getD}
@@ -19,25 +20,23 @@ use Rattle.utilities.specs.Lists.{listFrom}
 use Rattle.utilities.proofs.Built.{listFrom-length, listFrom-at}
 use Rattle.base.specs.Form.{Form, entriesAt, numberAt, valueAt}
 use Rattle.base.specs.Decode.{prepended, listNumber, categoryAt, listAt}
-use Rattle.base.specs.Encode.{joined, total, numbersFrom}
-use Rattle.writer.specs.Written.{valuesOf}
-use Rattle.writer.specs.WellFormed.{Each, ListsFit}
-use Rattle.writer.proofs.Standing.{Standing, standing-left, standing-right, number-back}
-use Rattle.writer.proofs.Values.{Back, value-back}
-use Rattle.writer.proofs.Sheets.{joined-length}
-use Rattle.writer.proofs.Arrays.{next-place}
+use Rattle.base.specs.Encode.{joined, total, numbersFrom, listsBytes}
+use Rattle.round_trip.specs.WellFormed.{Each, ListsFit}
+use Rattle.round_trip.proofs.Standing.{Standing, standing-at, standing-left, standing-right, number-back}
+use Rattle.round_trip.proofs.Values.{Back, value-back}
+use Rattle.round_trip.proofs.Arrays.{joined-length, next-place}
 
 -- the two arrays' bytes of one list: its number, once for each value, and its values
-abbrev numbersOf : {X : Type 0} → Form → ℕ → List X → List ℕ
+abbrev pub numbersOf : {X : Type 0} → Form → ℕ → List X → List ℕ
 numbersOf F m l = joined (λ v. leBytes (F .numberWidth) m) l
 
-abbrev listBytes : {X : Type 0} → (X → ℕ) → List X → List ℕ
+abbrev pub listBytes : {X : Type 0} → (X → ℕ) → List X → List ℕ
 listBytes bits l = joined (λ v. leBytes 8 (bits v)) l
 
-numbersOf-length : {X : Type 0} (F : Form) (m : ℕ) (l : List X) → length (numbersOf F m l) ≡ F .numberWidth * length l
+pub numbersOf-length : {X : Type 0} (F : Form) (m : ℕ) (l : List X) → length (numbersOf F m l) ≡ F .numberWidth * length l
 numbersOf-length F m l = joined-length (λ v. leBytes (F .numberWidth) m) (F .numberWidth) (λ v. length-leBytes (F .numberWidth) m) l
 
-listBytes-length : {X : Type 0} (bits : X → ℕ) (l : List X) → length (listBytes bits l) ≡ 8 * length l
+pub listBytes-length : {X : Type 0} (bits : X → ℕ) (l : List X) → length (listBytes bits l) ≡ 8 * length l
 listBytes-length bits l = joined-length (λ v. leBytes 8 (bits v)) 8 (λ v. length-leBytes 8 (bits v)) l
 
 module _ {X : Type 0} where
@@ -46,10 +45,14 @@ module _ {X : Type 0} where
   numbers-length F [] m = rw mul-zero
   numbers-length F (l ∷ ls) m = rw (length-append, numbersOf-length F m l, numbers-length F ls (m + 1)) (sym (mul-add (F .numberWidth) (length l) (total ls)))
 
-  pub values-length : (bits : X → ℕ) (ls : List (List X)) → length (valuesOf bits ls) ≡ 8 * total ls
-  unfolding valuesOf joined total
+  values-length : (bits : X → ℕ) (ls : List (List X)) → length (joined (listBytes bits) ls) ≡ 8 * total ls
+  unfolding joined total
   values-length bits [] = refl
   values-length bits (l ∷ ls) = rw (length-append, listBytes-length bits l, values-length bits ls) (omega arith)
+
+  pub lists-length : (F : Form) (bits : X → ℕ) (ls : List (List X)) → length (listsBytes F bits ls) ≡ (F .numberWidth + 8) * total ls
+  unfolding listsBytes
+  lists-length F bits ls = rw (length-append, numbers-length F ls 0, values-length bits ls) (sym (add-mul (F .numberWidth) 8 (total ls)))
 
 -- what list j sees of no category, and of one more
 unseen : {X : Type 0} (b : Bool) (rest : List X) → rest ≡ cond b [] [] ++ rest
@@ -117,10 +120,16 @@ module _ {X : Type 0} {P : X → Type 0} {bits : X → ℕ} {read : ℕ → X} (
       filed-own f (m + suc q) ∙ rw (ne-eqb m (m + suc q) (λ e. omega arith), shift) (list-back ls q (filed-rest f))
 
   pub lists-back :
-      (ls : List (List X)) → ListsFit F P ls → Standing s (numberAt F g 0) (numbersFrom F 0 ls) → Standing s (valueAt F g t 0) (valuesOf bits ls)
+      (ls : List (List X)) → ListsFit F P ls → t ≡ total ls → Standing s (entriesAt F g) (listsBytes F bits ls)
       → listFrom (length ls) 0 (λ j. listAt F s read g t j (total ls) 0) ≡ ls
-  unfolding valuesOf
-  lists-back ls fit n v =
+  unfolding listsBytes
+  lists-back ls fit e h =
+      let numbers = numbersFrom F 0 ls in
+      let values = joined (listBytes bits) ls in
+      let none = mul-zero (F .numberWidth) in
+      let size : length numbers ≡ F .numberWidth * t = rw e (numbers-length F ls 0) in
+      let n : Standing s (numberAt F g 0) numbers = standing-at (standing-left numbers values h) (omega arith) in
+      let v : Standing s (valueAt F g t 0) values = standing-right numbers values h (omega arith) in
       let list : ℕ → List X = λ j. listAt F s read g t j (total ls) 0 in
       let f : Filed 0 0 ls = record { room = omega (arith, fit .numbers); fit = fit .values; numbers = n; values = v } in
       ext-getD [] (listFrom (length ls) 0 list) ls (listFrom-length list (length ls) 0)

@@ -7,7 +7,7 @@ use native.Mathlib.Nat.{add-zero, add-assoc}
 use lib.ListN.{length, replicate, length-append, length-replicate}
 use Rattle.bytes.specs.Le.{leBytes}
 use Rattle.bytes.proofs.Widths.{length-leBytes}
-use Rattle.writer.proofs.Standing.{Standing, standing-left, standing-right, standing-at}
+use Rattle.round_trip.proofs.Standing.{Standing, standing-left, standing-right, standing-at}
 
 pub record Part : Type 0 where
   pub bytes : List ℕ

@@ -13,8 +13,8 @@ use mir.Facts.{fits-ofZ, toZ-ofZ}
 use Rattle.bytes.specs.Le.{leAt, leBytes}
 use Rattle.base.specs.Decode.{asWhole, asFloat, asBits, optionAt, endAt}
 use Rattle.base.specs.Encode.{wholeBits, floatBits, flag, mark, bitsOf, endBytes}
-use Rattle.writer.specs.WellFormed.{Present, Whole, Double, Bits}
-use Rattle.writer.proofs.Standing.{Standing, standing-left, standing-right, byte-back, number-back}
+use Rattle.round_trip.specs.WellFormed.{Present, Whole, Double, Bits}
+use Rattle.round_trip.proofs.Standing.{Standing, standing-left, standing-right, byte-back, number-back}
 
 -- P says of a value that its 64 bits give it back
 pub record Back {X : Type 0} (P : X → Type 0) (bits : X → ℕ) (read : ℕ → X) : Type 0 where

@@ -1,4 +1,5 @@
 -- Arrays of elements that are all equally long.
+--     joined-length    how long an array is
 --     array            an array as a part
 --     next-place       from the place of element i to that of the elements behind it
 --     arrays-back      two arrays side by side read back, if their elements do
@@ -6,15 +7,19 @@
 use mathlib.Core.Path.{_≡_, refl, ap₂}
 use mathlib.Core.List.{List, [], _∷_}
 use Prim.Native.Nat.{ℕ, _+_, _*_}
-use native.Mathlib.Nat.{mul-add}
+use native.Mathlib.Nat.{mul-add, mul-suc}
 use native.Mathlib.Omega.{arith}
-use lib.ListN.{length}
+use lib.ListN.{length, length-append}
 use Rattle.utilities.specs.Lists.{listFrom}
 use Rattle.base.specs.Encode.{joined}
-use Rattle.writer.proofs.Sheets.{joined-length}
-use Rattle.writer.specs.WellFormed.{Each}
-use Rattle.writer.proofs.Standing.{Standing, standing-left, standing-right}
-use Rattle.writer.proofs.Pieces.{Part}
+use Rattle.round_trip.specs.WellFormed.{Each}
+use Rattle.round_trip.proofs.Standing.{Standing, standing-left, standing-right}
+use Rattle.round_trip.proofs.Pieces.{Part}
+
+pub joined-length : {X : Type 0} (bytes : X → List ℕ) (n : ℕ) → ((x : X) → length (bytes x) ≡ n) → (xs : List X) → length (joined bytes xs) ≡ n * length xs
+unfolding joined
+joined-length bytes n h [] = omega arith
+joined-length bytes n h (x ∷ xs) = simp length-append (rw mul-suc (omega (arith, h x, joined-length bytes n h xs)))
 
 abbrev pub array : {X : Type 0} (bytes : X → List ℕ) (w : ℕ) → ((x : X) → length (bytes x) ≡ w) → List X → Part
 array bytes w h xs = record { bytes = joined bytes xs; width = w * length xs; sized = joined-length bytes w h xs }

@@ -9,12 +9,10 @@ use Rattle.bytes.proofs.Widths.{length-leBytes}
 use Rattle.base.specs.Form.{Form, place, reservedCount, fieldsEnd}
 use Rattle.base.specs.Sheet.{Group, Sheet}
 use Rattle.base.specs.Decode.{asBits}
-use Rattle.base.specs.Encode.{flag, mark, bitsOf, wholeBits, natureNumber, entryCount, valueCount, markBytes, valueBytes, groupBytes, encode}
-use Rattle.writer.specs.Written.{firstArray, secondArray, sheetFrom}
-use Rattle.writer.proofs.Sheets.{sheet-written}
-use Rattle.writer.proofs.Standing.{Standing, standing-first, standing-at}
-use Rattle.writer.proofs.Pieces.{Part, number, byte, zeros, plain, together, partOf, widths, together-length, part-stands}
-use Rattle.writer.proofs.Arrays.{array}
+use Rattle.base.specs.Encode.{flag, mark, bitsOf, wholeBits, natureNumber, entryCount, valueCount, sizeBytes, markBytes, valueBytes, groupBytes, natureBytes, encode}
+use Rattle.round_trip.proofs.Standing.{Standing, standing-first, standing-at}
+use Rattle.round_trip.proofs.Pieces.{Part, number, byte, zeros, plain, together, partOf, widths, together-length, part-stands}
+use Rattle.round_trip.proofs.Arrays.{array}
 
 -- what the two arrays of the groups have for one group
 abbrev pub partitionBytes : Group → List ℕ
@@ -62,15 +60,14 @@ module _ (F : Form) (s : Sheet) where
       ∷ zeros (F .arraysAt - place F fieldsEnd)
       ∷ array partitionBytes 4 partition-sized gs  -- 24
       ∷ array keyBytes 9 key-sized gs
-      ∷ plain (firstArray F (s .nature))  -- 26
-      ∷ plain (secondArray F (s .nature))
+      ∷ plain (natureBytes F (s .nature))  -- 26
       ∷ []
 
   in-parts : encode F s ≡ together parts
-  unfolding sheetFrom markBytes valueBytes groupBytes
-  in-parts = sheet-written F s ∙ simp (append-assoc, append-nil)
+  unfolding encode sizeBytes markBytes valueBytes groupBytes
+  in-parts = simp (append-assoc, append-nil)
 
-  pub sheet-length : length (encode F s) ≡ widths parts 28
+  pub sheet-length : length (encode F s) ≡ widths parts 27
   sheet-length = ap length in-parts ∙ together-length parts
 
   -- part k, at its place

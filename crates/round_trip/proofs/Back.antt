@@ -1,5 +1,4 @@
 -- A well-formed sheet comes back when its bytes are decoded, whatever bytes follow.
---     narrow-laid         01's form has its places in order
 --     called-for          the sizes in the bytes call for the bytes of the sheet, no more and no less
 --     sheet-back          decoding undoes encoding
 --     sheet-bytes-back    the length called for cuts the sheet's bytes out
@@ -10,18 +9,14 @@ use Prim.Native.Nat.{ℕ}
 use native.Mathlib.Omega.{arith}
 use lib.ListN.{length, take}
 use lib.Seq.{take-append-seam}
-use Rattle.base.specs.Form.{Form, narrow, lengthCalledFor}
+use Rattle.base.specs.Form.{Form, Laid, lengthCalledFor}
 use Rattle.base.specs.Sheet.{Sheet}
 use Rattle.base.specs.Decode.{decode}
 use Rattle.base.specs.Encode.{encode}
-use Rattle.writer.specs.Laid.{Laid}
-use Rattle.writer.specs.WellFormed.{WellFormed}
-use Rattle.writer.proofs.Table.{sheet-length}
-use Rattle.writer.proofs.Fields.{group-count-back, list-count-back, category-count-back, nature-byte-back, node-back, fields-back, groups-back}
-use Rattle.writer.proofs.Natures.{arrays-length, nature-back}
-
-pub narrow-laid : Laid narrow
-narrow-laid = omega arith
+use Rattle.round_trip.specs.WellFormed.{WellFormed}
+use Rattle.round_trip.proofs.Table.{sheet-length}
+use Rattle.round_trip.proofs.Fields.{group-count-back, list-count-back, category-count-back, nature-byte-back, node-back, fields-back, groups-back}
+use Rattle.round_trip.proofs.Natures.{arrays-length, nature-back}
 
 module _ {F : Form} (laid : Laid F) {s : Sheet} (fit : WellFormed F s) (rest : List ℕ) where
   pub called-for : lengthCalledFor F (encode F s ++ rest) ≡ length (encode F s)

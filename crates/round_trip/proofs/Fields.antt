@@ -5,16 +5,15 @@ use Prim.Native.Nat.{ℕ, _+_, _*_}
 use native.Mathlib.Omega.{arith}
 use lib.ListN.{length}
 use Rattle.bytes.specs.Le.{leAt, leBytes}
-use Rattle.base.specs.Form.{Form, groupCount, listCount, categoryCount, place, byteAt, natureAt, typeAt, nullityAt, releasableAt, notEmptyAt, orderedAt, cStabilityAt, aggregatorAt, rowsMarkAt, columnsMarkAt, datasetMarkAt, dimensionalityMarkAt, sampleMarkAt, rowsAt, columnsAt, datasetAt, dimensionalityAt, sampleAt, nodeAt, partitionAt, keyAt}
+use Rattle.base.specs.Form.{Form, Laid, groupCount, listCount, categoryCount, place, byteAt, natureAt, typeAt, nullityAt, releasableAt, notEmptyAt, orderedAt, cStabilityAt, aggregatorAt, rowsMarkAt, columnsMarkAt, datasetMarkAt, dimensionalityMarkAt, sampleMarkAt, rowsAt, columnsAt, datasetAt, dimensionalityAt, sampleAt, nodeAt, partitionAt, keyAt}
 use Rattle.base.specs.Sheet.{Group, Sheet}
 use Rattle.base.specs.Decode.{asWhole, groupAt, fieldsIn, groupsIn}
 use Rattle.base.specs.Encode.{wholeBits, natureNumber, entryCount, valueCount, encode}
-use Rattle.writer.specs.Laid.{Laid}
-use Rattle.writer.specs.WellFormed.{GroupFits, WellFormed}
-use Rattle.writer.proofs.Standing.{Standing, standing-left, standing-right, byte-back, number-back}
-use Rattle.writer.proofs.Values.{whole, bits, flag-back, value-back, option-back}
-use Rattle.writer.proofs.Arrays.{arrays-back}
-use Rattle.writer.proofs.Table.{partitionBytes, keyBytes, partition-sized, key-sized, part-at}
+use Rattle.round_trip.specs.WellFormed.{GroupFits, WellFormed}
+use Rattle.round_trip.proofs.Standing.{Standing, standing-left, standing-right, byte-back, number-back}
+use Rattle.round_trip.proofs.Values.{whole, bits, flag-back, value-back, option-back}
+use Rattle.round_trip.proofs.Arrays.{arrays-back}
+use Rattle.round_trip.proofs.Table.{partitionBytes, keyBytes, partition-sized, key-sized, part-at}
 
 -- group i of g
 group-back :
