@@ -5,7 +5,7 @@ use Prim.Native.Nat.{ℕ, zero, suc, _+_, _*_}
 use lib.Dec.{eqb}
 use Rattle.numbers.specs.Result.{Result, ok, refused}
 use Rattle.numbers.specs.Kind as K
-use Rattle.base.specs.Form.{narrow, groupCount, listCount, lowerAt, upperAt, wholeRangeNature, floatRangeNature}
+use Rattle.base.specs.Form.{Form, groupCount, listCount, lowerAt, upperAt, wholeRangeNature, floatRangeNature}
 use Rattle.base.specs.Code.{ofWhole, ofFloat, boundAt, boundBytes}
 use Rattle.base.specs.declared.Component.{Component}
 use Rattle.ends.specs.Ends.{endRule}
@@ -26,10 +26,10 @@ abbrev pub entryOf : ℕ → ℕ → ℕ
 entryOf n j = cond (eqb n 1) 0 j
 
 -- entry i of a sheet's range
-unfoldable pub rangeAt : Bool → List ℕ → ℕ → Range
-rangeAt float s i =
-    rangeOf (boundAt float (lowerAt narrow (groupCount narrow s) i) s)
-    (boundAt float (upperAt narrow (groupCount narrow s) (listCount narrow s) i) s)
+unfoldable pub rangeAt : Form → Bool → List ℕ → ℕ → Range
+rangeAt F float s i =
+    rangeOf (boundAt float (lowerAt F (groupCount F s) i) s)
+    (boundAt float (upperAt F (groupCount F s) (listCount F s) i) s)
 
 -- the ends of a column, by the kind
 unfoldable pub columnEnds : Bool → Component → ℕ → Range → Range → Ends
@@ -37,9 +37,9 @@ columnEnds float c type x y =
     cond float (endsOf ofFloat (endRule K.float c (floatSpan x) (floatSpan y))) (endsOf ofWhole (wholeRule c type (wholeSpan x) (wholeSpan y)))
 
 -- the ends of column j of two sheets' ranges
-unfoldable pub columnAt : Bool → Component → ℕ → List ℕ → List ℕ → ℕ → Ends
-columnAt float c type l r j =
-    columnEnds float c type (rangeAt float l (entryOf (listCount narrow l) j)) (rangeAt float r (entryOf (listCount narrow r) j))
+unfoldable pub columnAt : Form → Bool → Component → ℕ → List ℕ → List ℕ → ℕ → Ends
+columnAt F float c type l r j =
+    columnEnds float c type (rangeAt F float l (entryOf (listCount F l) j)) (rangeAt F float r (entryOf (listCount F r) j))
 
 abbrev pub rangeNumber : Bool → ℕ
 rangeNumber float = cond float floatRangeNature wholeRangeNature

@@ -2,6 +2,7 @@
 use base::Component;
 use base::Sizes;
 use base::form;
+use base::form::Form;
 use base::refusals;
 use ends::Ends;
 use ends::Range;
@@ -9,12 +10,12 @@ use writer::Derived;
 use writer::Parts;
 ghost use mathlib.Core.Path.{_≡_};
 ghost use mathlib.Core.Bool.{true, false};
-ghost use Prim.Native.Nat.{_*_, _≤_, _<_};
+ghost use Prim.Native.Nat.{_*_, _^_, _≤_, _<_};
 ghost use lib.ListN.{length};
-ghost use Rattle.base.specs.Form.{narrow, natureAt, byteAt, isRangeNature};
+ghost use Rattle.base.specs.Form.{formOf, natureAt, byteAt, isRangeNature};
 ghost use Rattle.base.specs.Checks.{sizesFail};
 ghost use Rattle.base.specs.Sized.{RangeFits};
-ghost use Rattle.writer.specs.Written.{inWriting, derivedIn, Within};
+ghost use Rattle.writer.specs.Written.{inWriting, derivedIn, endsRoom, Within};
 ghost use Rattle.ranges.specs.Ranges.{rangeNature};
 ghost use Rattle.ranges.specs.Chained.{spreadsOver, entryOf, rangeAt, columnEnds, columnAt, rangeNumber, rangeParts, columnsFrom};
 
@@ -34,12 +35,12 @@ fn entry_of(columns: usize, n: usize, j: usize) -> usize
 }
 
 // Entry i of n.
-fn entry_at(s: &[u8], float: bool, g: usize, n: usize, i: usize) -> Range
-    requires { ⌜ RangeFits narrow (now s) g n × (i < n) ⌝ }
-    ensures { λ r. ⌜ r ≡ rangeAt float (now (s .entry)) i ⌝ }
+fn entry_at(f: Form, s: &[u8], float: bool, g: usize, n: usize, i: usize) -> Range
+    requires { ⌜ RangeFits (formOf f) (now s) g n × (i < n) ⌝ }
+    ensures { λ r. ⌜ r ≡ rangeAt (formOf f) float (now (s .entry)) i ⌝ }
 {
-    let lower = base::bound_at(s, float, form::lower_at(g, i));
-    let upper = base::bound_at(s, float, form::upper_at(g, n, i));
+    let lower = base::bound_at(s, float, f.lower_at(g, i));
+    let upper = base::bound_at(s, float, f.upper_at(g, n, i));
     Range { lower, upper }
 }
 
@@ -58,6 +59,7 @@ fn column(c: Component, data_type: u8, float: bool, x: Range, y: Range) -> Ends
 
 // The ends of column j.
 fn column_at(
+    f: Form,
     c: Component,
     data_type: u8,
     float: bool,
@@ -68,13 +70,13 @@ fn column_at(
     r: Sizes,
     j: usize,
 ) -> Ends
-    requires { ⌜ RangeFits narrow (now left) (l .groups) (l .lists) × (spreadsOver columns (l .lists) ≡ true) × RangeFits narrow (now right) (r .groups) (r .lists) × (spreadsOver columns (r .lists) ≡ true) × (j < columns) ⌝ }
-    ensures { λ e. ⌜ e ≡ columnAt float c data_type (now (left .entry)) (now (right .entry)) j ⌝ }
+    requires { ⌜ RangeFits (formOf f) (now left) (l .groups) (l .lists) × (spreadsOver columns (l .lists) ≡ true) × RangeFits (formOf f) (now right) (r .groups) (r .lists) × (spreadsOver columns (r .lists) ≡ true) × (j < columns) ⌝ }
+    ensures { λ e. ⌜ e ≡ columnAt (formOf f) float c data_type (now (left .entry)) (now (right .entry)) j ⌝ }
 {
     let i = entry_of(columns, l.lists, j);
-    let x = entry_at(left, float, l.groups, l.lists, i);
+    let x = entry_at(f, left, float, l.groups, l.lists, i);
     let k = entry_of(columns, r.lists, j);
-    let y = entry_at(right, float, r.groups, r.lists, k);
+    let y = entry_at(f, right, float, r.groups, r.lists, k);
     column(c, data_type, float, x, y)
 }
 
@@ -91,7 +93,7 @@ fn range_number(float: bool) -> u8
 
 // A range whose lowers and uppers stand in the two buffers.
 fn range_parts(float: bool, columns: usize) -> Parts
-    requires { ⌜ columns ≤ narrow .columnLimit ⌝ }
+    requires { ⌜ columns < 2 ^ 32 ⌝ }
     ensures { λ r. ⌜ r ≡ rangeParts float columns ⌝ }
 {
     let length = form::END_WIDTH * columns;
@@ -106,6 +108,7 @@ fn range_parts(float: bool, columns: usize) -> Parts
 
 // Appends the ends of each column, or answers the first refusal.
 fn put_columns(
+    f: Form,
     c: Component,
     data_type: u8,
     float: bool,
@@ -117,13 +120,13 @@ fn put_columns(
     lowers: &mut [u8],
     uppers: &mut [u8],
 ) -> Derived
-    requires { ⌜ RangeFits narrow (now left) (l .groups) (l .lists) × (spreadsOver columns (l .lists) ≡ true) × RangeFits narrow (now right) (r .groups) (r .lists) × (spreadsOver columns (r .lists) ≡ true) × (columns ≤ narrow .columnLimit) × (9 * columns ≤ length (now lowers)) × (9 * columns ≤ length (now uppers)) ⌝ }
-    ensures { λ d. ⌜ (derivedIn d (now (lowers .exit)) (now (uppers .exit)) ≡ columnsFrom (rangeNumber float) (columnAt float c data_type (now (left .entry)) (now (right .entry))) columns 0) × Within d ⌝ }
+    requires { ⌜ RangeFits (formOf f) (now left) (l .groups) (l .lists) × (spreadsOver columns (l .lists) ≡ true) × RangeFits (formOf f) (now right) (r .groups) (r .lists) × (spreadsOver columns (r .lists) ≡ true) × (columns ≤ formOf f .columnLimit) × (9 * columns ≤ length (now lowers)) × (9 * columns ≤ length (now uppers)) ⌝ }
+    ensures { λ d. ⌜ (derivedIn d (now (lowers .exit)) (now (uppers .exit)) ≡ columnsFrom (rangeNumber float) (columnAt (formOf f) float c data_type (now (left .entry)) (now (right .entry))) columns 0) × Within (formOf f) (endsRoom (formOf f)) (now (lowers .exit)) (now (uppers .exit)) d ⌝ }
 {
     let mut at = 0;
     let mut j = 0;
     while j < columns {
-        let e = column_at(c, data_type, float, columns, left, l, right, r, j);
+        let e = column_at(f, c, data_type, float, columns, left, l, right, r, j);
         match e {
             Ends::Refused(k) => {
                 return Derived::Refused(k);
@@ -142,6 +145,7 @@ fn put_columns(
 
 // The range derived of two sheets' ranges, which are both float or both whole: its lowers and uppers stand at the start of the two buffers.
 pub fn range_pair(
+    f: Form,
     c: Component,
     data_type: u8,
     float: bool,
@@ -151,18 +155,19 @@ pub fn range_pair(
     lowers: &mut [u8],
     uppers: &mut [u8],
 ) -> Derived
-    requires { ⌜ (sizesFail narrow (now left) ≡ false) × (isRangeNature (byteAt narrow natureAt (now left)) ≡ true) × (sizesFail narrow (now right) ≡ false) × (isRangeNature (byteAt narrow natureAt (now right)) ≡ true) × (columns ≤ narrow .columnLimit) × (9 * columns ≤ length (now lowers)) × (9 * columns ≤ length (now uppers)) ⌝ }
-    ensures { λ r. ⌜ (derivedIn r (now (lowers .exit)) (now (uppers .exit)) ≡ inWriting narrow (rangeNature narrow float c data_type columns (now (left .entry)) (now (right .entry)))) × Within r ⌝ }
+    requires { ⌜ (sizesFail (formOf f) (now left) ≡ false) × (isRangeNature (byteAt (formOf f) natureAt (now left)) ≡ true) × (sizesFail (formOf f) (now right) ≡ false) × (isRangeNature (byteAt (formOf f) natureAt (now right)) ≡ true) × (columns ≤ formOf f .columnLimit) × (9 * columns ≤ length (now lowers)) × (9 * columns ≤ length (now uppers)) ⌝ }
+    ensures { λ r. ⌜ (derivedIn r (now (lowers .exit)) (now (uppers .exit)) ≡ inWriting (formOf f) (rangeNature (formOf f) float c data_type columns (now (left .entry)) (now (right .entry)))) × Within (formOf f) (endsRoom (formOf f)) (now (lowers .exit)) (now (uppers .exit)) r ⌝ }
 {
-    let l = base::sizes_at(left);
+    let l = base::sizes_at(f, left);
     if !spreads(columns, l.lists) {
         return Derived::Refused(refusals::UNEVEN_LIST);
     }
-    let r = base::sizes_at(right);
+    let r = base::sizes_at(f, right);
     if !spreads(columns, r.lists) {
         return Derived::Refused(refusals::UNEVEN_LIST);
     }
     put_columns(
+        f,
         c,
         data_type,
         float,

@@ -1,11 +1,12 @@
 // What the ends of a range are asked: by Modulo, Log and Power before they derive, and by Divide for its nullity.
 use base::Bound;
 use base::form;
+use base::form::Form;
 ghost use mathlib.Core.Path.{_≡_};
 ghost use mathlib.Core.Bool.{false, not};
 ghost use Prim.Native.Nat.{_<_};
 ghost use Rattle.numbers.specs.Kind.{whole, float};
-ghost use Rattle.base.specs.Form.{narrow};
+ghost use Rattle.base.specs.Form.{formOf};
 ghost use Rattle.base.specs.Sheet.{isWholeRange};
 ghost use Rattle.base.specs.Decode.{natureIn};
 ghost use Rattle.base.specs.Bounds.{isPresent, everyEntry, lowersPresent, uppersPresent, wholeLowersPresent, lowersPositive, lowersNonNegative, allSuitAsBase};
@@ -133,12 +134,12 @@ fn float_asked(ask: Ask, lower: Bound, upper: Bound) -> bool
 }
 
 // Entry i of n.
-fn entry_asked(s: &[u8], ask: Ask, floats: bool, g: usize, n: usize, i: usize) -> bool
-    requires { ⌜ RangeFits narrow (now s) g n × (i < n) ⌝ }
-    ensures { λ r. ⌜ r ≡ entryAsked narrow ask floats (now (s .entry)) i ⌝ }
+fn entry_asked(f: Form, s: &[u8], ask: Ask, floats: bool, g: usize, n: usize, i: usize) -> bool
+    requires { ⌜ RangeFits (formOf f) (now s) g n × (i < n) ⌝ }
+    ensures { λ r. ⌜ r ≡ entryAsked (formOf f) ask floats (now (s .entry)) i ⌝ }
 {
-    let lower = base::bound_at(s, floats, form::lower_at(g, i));
-    let upper = base::bound_at(s, floats, form::upper_at(g, n, i));
+    let lower = base::bound_at(s, floats, f.lower_at(g, i));
+    let upper = base::bound_at(s, floats, f.upper_at(g, n, i));
     if floats {
         return float_asked(ask, lower, upper);
     }
@@ -147,13 +148,13 @@ fn entry_asked(s: &[u8], ask: Ask, floats: bool, g: usize, n: usize, i: usize) -
 
 // ---- every entry
 
-fn entries_asked(s: &[u8], ask: Ask, floats: bool, g: usize, n: usize) -> bool
-    requires { ⌜ RangeFits narrow (now s) g n ⌝ }
-    ensures { λ r. ⌜ r ≡ holdsFrom n 0 (entryAsked narrow ask floats (now (s .entry))) ⌝ }
+fn entries_asked(f: Form, s: &[u8], ask: Ask, floats: bool, g: usize, n: usize) -> bool
+    requires { ⌜ RangeFits (formOf f) (now s) g n ⌝ }
+    ensures { λ r. ⌜ r ≡ holdsFrom n 0 (entryAsked (formOf f) ask floats (now (s .entry))) ⌝ }
 {
     let mut i = 0;
     while i < n {
-        if !entry_asked(s, ask, floats, g, n, i) {
+        if !entry_asked(f, s, ask, floats, g, n, i) {
             return false;
         }
         i += 1;
@@ -162,71 +163,71 @@ fn entries_asked(s: &[u8], ask: Ask, floats: bool, g: usize, n: usize) -> bool
 }
 
 // Whether the sheet is a range whose every entry passes.
-pub fn every_entry(s: &[u8], ask: Ask) -> bool
-    requires { ⌜ sizesFail narrow (now s) ≡ false ⌝ }
-    ensures { λ r. ⌜ r ≡ everyEntry (wholeAsked ask) (floatAsked ask) (natureIn narrow (now (s .entry))) ⌝ }
+pub fn every_entry(f: Form, s: &[u8], ask: Ask) -> bool
+    requires { ⌜ sizesFail (formOf f) (now s) ≡ false ⌝ }
+    ensures { λ r. ⌜ r ≡ everyEntry (wholeAsked ask) (floatAsked ask) (natureIn (formOf f) (now (s .entry))) ⌝ }
 {
-    let sizes = base::sizes_at(s);
+    let sizes = base::sizes_at(f, s);
     let g = sizes.groups;
     let n = sizes.lists;
-    let nature = base::nature_of(s);
+    let nature = base::nature_of(f, s);
     if nature == form::WHOLE_RANGE {
-        return entries_asked(s, ask, false, g, n);
+        return entries_asked(f, s, ask, false, g, n);
     }
     if nature == form::FLOAT_RANGE {
-        return entries_asked(s, ask, true, g, n);
+        return entries_asked(f, s, ask, true, g, n);
     }
     false
 }
 
-pub fn is_whole_range(s: &[u8]) -> bool
-    requires { ⌜ sizesFail narrow (now s) ≡ false ⌝ }
-    ensures { λ r. ⌜ r ≡ isWholeRange (natureIn narrow (now (s .entry))) ⌝ }
+pub fn is_whole_range(f: Form, s: &[u8]) -> bool
+    requires { ⌜ sizesFail (formOf f) (now s) ≡ false ⌝ }
+    ensures { λ r. ⌜ r ≡ isWholeRange (natureIn (formOf f) (now (s .entry))) ⌝ }
 {
-    base::nature_of(s) == form::WHOLE_RANGE
+    base::nature_of(f, s) == form::WHOLE_RANGE
 }
 
 // `lower_float` gives its list.
-pub fn lowers_present(s: &[u8]) -> bool
-    requires { ⌜ sizesFail narrow (now s) ≡ false ⌝ }
-    ensures { λ r. ⌜ r ≡ lowersPresent (natureIn narrow (now (s .entry))) ⌝ }
+pub fn lowers_present(f: Form, s: &[u8]) -> bool
+    requires { ⌜ sizesFail (formOf f) (now s) ≡ false ⌝ }
+    ensures { λ r. ⌜ r ≡ lowersPresent (natureIn (formOf f) (now (s .entry))) ⌝ }
 {
-    every_entry(s, Ask::LowerPresent)
+    every_entry(f, s, Ask::LowerPresent)
 }
 
 // `upper_float` gives its list.
-pub fn uppers_present(s: &[u8]) -> bool
-    requires { ⌜ sizesFail narrow (now s) ≡ false ⌝ }
-    ensures { λ r. ⌜ r ≡ uppersPresent (natureIn narrow (now (s .entry))) ⌝ }
+pub fn uppers_present(f: Form, s: &[u8]) -> bool
+    requires { ⌜ sizesFail (formOf f) (now s) ≡ false ⌝ }
+    ensures { λ r. ⌜ r ≡ uppersPresent (natureIn (formOf f) (now (s .entry))) ⌝ }
 {
-    every_entry(s, Ask::UpperPresent)
+    every_entry(f, s, Ask::UpperPresent)
 }
 
 // `lower_int` gives its list.
-pub fn whole_lowers_present(s: &[u8]) -> bool
-    requires { ⌜ sizesFail narrow (now s) ≡ false ⌝ }
-    ensures { λ r. ⌜ r ≡ wholeLowersPresent (natureIn narrow (now (s .entry))) ⌝ }
+pub fn whole_lowers_present(f: Form, s: &[u8]) -> bool
+    requires { ⌜ sizesFail (formOf f) (now s) ≡ false ⌝ }
+    ensures { λ r. ⌜ r ≡ wholeLowersPresent (natureIn (formOf f) (now (s .entry))) ⌝ }
 {
-    is_whole_range(s) & lowers_present(s)
+    is_whole_range(f, s) & lowers_present(f, s)
 }
 
-pub fn lowers_positive(s: &[u8]) -> bool
-    requires { ⌜ sizesFail narrow (now s) ≡ false ⌝ }
-    ensures { λ r. ⌜ r ≡ lowersPositive (natureIn narrow (now (s .entry))) ⌝ }
+pub fn lowers_positive(f: Form, s: &[u8]) -> bool
+    requires { ⌜ sizesFail (formOf f) (now s) ≡ false ⌝ }
+    ensures { λ r. ⌜ r ≡ lowersPositive (natureIn (formOf f) (now (s .entry))) ⌝ }
 {
-    every_entry(s, Ask::LowerPositive)
+    every_entry(f, s, Ask::LowerPositive)
 }
 
-pub fn lowers_non_negative(s: &[u8]) -> bool
-    requires { ⌜ sizesFail narrow (now s) ≡ false ⌝ }
-    ensures { λ r. ⌜ r ≡ lowersNonNegative (natureIn narrow (now (s .entry))) ⌝ }
+pub fn lowers_non_negative(f: Form, s: &[u8]) -> bool
+    requires { ⌜ sizesFail (formOf f) (now s) ≡ false ⌝ }
+    ensures { λ r. ⌜ r ≡ lowersNonNegative (natureIn (formOf f) (now (s .entry))) ⌝ }
 {
-    every_entry(s, Ask::LowerNonNegative)
+    every_entry(f, s, Ask::LowerNonNegative)
 }
 
-pub fn all_suit_as_base(s: &[u8]) -> bool
-    requires { ⌜ sizesFail narrow (now s) ≡ false ⌝ }
-    ensures { λ r. ⌜ r ≡ allSuitAsBase (natureIn narrow (now (s .entry))) ⌝ }
+pub fn all_suit_as_base(f: Form, s: &[u8]) -> bool
+    requires { ⌜ sizesFail (formOf f) (now s) ≡ false ⌝ }
+    ensures { λ r. ⌜ r ≡ allSuitAsBase (natureIn (formOf f) (now (s .entry))) ⌝ }
 {
-    every_entry(s, Ask::Base)
+    every_entry(f, s, Ask::Base)
 }

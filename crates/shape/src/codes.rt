@@ -5,6 +5,7 @@ use base::Component;
 use base::Head;
 use base::OptionU64;
 use base::form;
+use base::form::Form;
 use base::refusals::AGGREGATED;
 use base::refusals::BOUND_KINDS;
 use base::refusals::COLUMNS;
@@ -20,7 +21,7 @@ ghost use mathlib.Core.Path.{_≡_};
 ghost use mathlib.Core.Bool.{false, not, _&&_};
 ghost use lib.Dec.{eqb};
 ghost use Rattle.numbers.specs.Result.{firstFailing};
-ghost use Rattle.base.specs.Form.{narrow};
+ghost use Rattle.base.specs.Form.{formOf};
 ghost use Rattle.base.specs.Decode.{groupsIn, decode};
 ghost use Rattle.base.specs.Checks.{sizesFail};
 ghost use Rattle.base.specs.Code.{bitsIn, headFields};
@@ -100,12 +101,12 @@ fn both_private(l: Head, r: Head) -> bool
 }
 
 // Groups are compared only where neither operand is releasable.
-fn groups_clash(left: &[u8], right: &[u8], l: Head, r: Head) -> bool
-    requires { ⌜ (sizesFail narrow (now left) ≡ false) × (sizesFail narrow (now right) ≡ false) ⌝ }
-    ensures { λ o. ⌜ o ≡ (bothPrivate (headFields l) (headFields r) && not (sameGroups (groupsIn narrow (now (left .entry))) (groupsIn narrow (now (right .entry))))) ⌝ }
+fn groups_clash(f: Form, left: &[u8], right: &[u8], l: Head, r: Head) -> bool
+    requires { ⌜ (sizesFail (formOf f) (now left) ≡ false) × (sizesFail (formOf f) (now right) ≡ false) ⌝ }
+    ensures { λ o. ⌜ o ≡ (bothPrivate (headFields l) (headFields r) && not (sameGroups (groupsIn (formOf f) (now (left .entry))) (groupsIn (formOf f) (now (right .entry))))) ⌝ }
 {
     if both_private(l, r) {
-        return !groups::same_groups(left, right);
+        return !groups::same_groups(f, left, right);
     }
     false
 }
@@ -127,11 +128,11 @@ fn shape_code(l: Head, r: Head) -> u32
 }
 
 // Add, Subtract, Multiply and Divide.
-pub fn pair_code(left: &[u8], right: &[u8], l: Head, r: Head) -> u32
-    requires { ⌜ Operand narrow (now left) l × Operand narrow (now right) r ⌝ }
-    ensures { λ o. ⌜ o ≡ firstFailing (pairChecks (decode narrow (now (left .entry))) (decode narrow (now (right .entry)))) ⌝ }
+pub fn pair_code(f: Form, left: &[u8], right: &[u8], l: Head, r: Head) -> u32
+    requires { ⌜ Operand (formOf f) (now left) l × Operand (formOf f) (now right) r ⌝ }
+    ensures { λ o. ⌜ o ≡ firstFailing (pairChecks (decode (formOf f) (now (left .entry))) (decode (formOf f) (now (right .entry)))) ⌝ }
 {
-    let clash = groups_clash(left, right, l, r);
+    let clash = groups_clash(f, left, right, l, r);
     operands_code(l, r, first(GROUPS, clash, shape_code(l, r)))
 }
 
@@ -143,33 +144,33 @@ fn both_of(l: Head, r: Head, kind: u8) -> bool
     (l.data_type == kind) & (r.data_type == kind)
 }
 
-fn modulo_code(right: &[u8], l: Head, r: Head) -> u32
-    requires { ⌜ Operand narrow (now right) r ⌝ }
-    ensures { λ o. ⌜ o ≡ firstFailing (moduloChecks (only (headFields l)) (decode narrow (now (right .entry)))) ⌝ }
+fn modulo_code(f: Form, right: &[u8], l: Head, r: Head) -> u32
+    requires { ⌜ Operand (formOf f) (now right) r ⌝ }
+    ensures { λ o. ⌜ o ≡ firstFailing (moduloChecks (only (headFields l)) (decode (formOf f) (now (right .entry)))) ⌝ }
 {
-    let conditions = first(CONDITION, !bounds::lowers_positive(right), 0);
+    let conditions = first(CONDITION, !bounds::lowers_positive(f, right), 0);
     if both_of(l, r, form::INT_TYPE) {
         return first(
             BOUND_KINDS,
-            !bounds::whole_lowers_present(right),
+            !bounds::whole_lowers_present(f, right),
             conditions,
         );
     }
     if both_of(l, r, form::FLOAT_TYPE) {
-        return first(BOUND_KINDS, !bounds::lowers_present(right), conditions);
+        return first(BOUND_KINDS, !bounds::lowers_present(f, right), conditions);
     }
     TYPES
 }
 
-fn power_code(right: &[u8], l: Head, r: Head) -> u32
-    requires { ⌜ Operand narrow (now right) r ⌝ }
-    ensures { λ o. ⌜ o ≡ firstFailing (powerChecks (only (headFields l)) (decode narrow (now (right .entry)))) ⌝ }
+fn power_code(f: Form, right: &[u8], l: Head, r: Head) -> u32
+    requires { ⌜ Operand (formOf f) (now right) r ⌝ }
+    ensures { λ o. ⌜ o ≡ firstFailing (powerChecks (only (headFields l)) (decode (formOf f) (now (right .entry)))) ⌝ }
 {
     if both_of(l, r, form::INT_TYPE) {
-        let conditions = first(CONDITION, !bounds::lowers_non_negative(right), 0);
+        let conditions = first(CONDITION, !bounds::lowers_non_negative(f, right), 0);
         return first(
             BOUND_KINDS,
-            !bounds::whole_lowers_present(right),
+            !bounds::whole_lowers_present(f, right),
             conditions,
         );
     }
@@ -177,37 +178,37 @@ fn power_code(right: &[u8], l: Head, r: Head) -> u32
 }
 
 // 15 and 16 of the data.
-fn data_code(left: &[u8], right: &[u8]) -> u32
-    requires { ⌜ (sizesFail narrow (now left) ≡ false) × (sizesFail narrow (now right) ≡ false) ⌝ }
-    ensures { λ o. ⌜ o ≡ firstFailing (dataChecks (decode narrow (now (left .entry))) (decode narrow (now (right .entry)))) ⌝ }
+fn data_code(f: Form, left: &[u8], right: &[u8]) -> u32
+    requires { ⌜ (sizesFail (formOf f) (now left) ≡ false) × (sizesFail (formOf f) (now right) ≡ false) ⌝ }
+    ensures { λ o. ⌜ o ≡ firstFailing (dataChecks (decode (formOf f) (now (left .entry))) (decode (formOf f) (now (right .entry)))) ⌝ }
 {
-    let whole = bounds::is_whole_range(left) & bounds::is_whole_range(right);
+    let whole = bounds::is_whole_range(f, left) & bounds::is_whole_range(f, right);
     let rest = first(
         BOUND_KINDS,
         whole,
-        first(CONDITION, !bounds::lowers_positive(left), 0),
+        first(CONDITION, !bounds::lowers_positive(f, left), 0),
     );
-    first(BOUND_KINDS, !bounds::lowers_present(left), rest)
+    first(BOUND_KINDS, !bounds::lowers_present(f, left), rest)
 }
 
 // 15 and 16 are done for the base, then for the data.
-fn log_code(left: &[u8], right: &[u8], l: Head) -> u32
-    requires { ⌜ Operand narrow (now left) l × (sizesFail narrow (now right) ≡ false) ⌝ }
-    ensures { λ o. ⌜ o ≡ firstFailing (logChecks (decode narrow (now (left .entry))) (decode narrow (now (right .entry)))) ⌝ }
+fn log_code(f: Form, left: &[u8], right: &[u8], l: Head) -> u32
+    requires { ⌜ Operand (formOf f) (now left) l × (sizesFail (formOf f) (now right) ≡ false) ⌝ }
+    ensures { λ o. ⌜ o ≡ firstFailing (logChecks (decode (formOf f) (now (left .entry))) (decode (formOf f) (now (right .entry)))) ⌝ }
 {
-    let present = bounds::lowers_present(right) & bounds::uppers_present(right);
+    let present = bounds::lowers_present(f, right) & bounds::uppers_present(f, right);
     let suited = first(
         CONDITION,
-        !bounds::all_suit_as_base(right),
-        data_code(left, right),
+        !bounds::all_suit_as_base(f, right),
+        data_code(f, left, right),
     );
     let rest = first(BOUND_KINDS, !present, suited);
     first(TYPES, l.data_type != form::FLOAT_TYPE, rest)
 }
 
-fn bound_code(c: Component, left: &[u8], right: &[u8], l: Head, r: Head) -> u32
-    requires { ⌜ Operand narrow (now left) l × Operand narrow (now right) r ⌝ }
-    ensures { λ o. ⌜ o ≡ firstFailing (boundChecks c (decode narrow (now (left .entry))) (decode narrow (now (right .entry)))) ⌝ }
+fn bound_code(f: Form, c: Component, left: &[u8], right: &[u8], l: Head, r: Head) -> u32
+    requires { ⌜ Operand (formOf f) (now left) l × Operand (formOf f) (now right) r ⌝ }
+    ensures { λ o. ⌜ o ≡ firstFailing (boundChecks c (decode (formOf f) (now (left .entry))) (decode (formOf f) (now (right .entry)))) ⌝ }
 {
     match c {
         Component::Abs => 0,
@@ -215,27 +216,27 @@ fn bound_code(c: Component, left: &[u8], right: &[u8], l: Head, r: Head) -> u32
         Component::Subtract => 0,
         Component::Multiply => 0,
         Component::Divide => 0,
-        Component::Modulo => modulo_code(right, l, r),
-        Component::Log => log_code(left, right, l),
-        Component::Power => power_code(right, l, r),
+        Component::Modulo => modulo_code(f, right, l, r),
+        Component::Log => log_code(f, left, right, l),
+        Component::Power => power_code(f, right, l, r),
         Component::Negative => 0,
     }
 }
 
 // Modulo, Log and Power, before their nature is derived.
-pub fn copy_code(c: Component, left: &[u8], right: &[u8], l: Head, r: Head) -> u32
-    requires { ⌜ Operand narrow (now left) l × Operand narrow (now right) r ⌝ }
-    ensures { λ o. ⌜ o ≡ firstFailing (copyChecks c (decode narrow (now (left .entry))) (decode narrow (now (right .entry)))) ⌝ }
+pub fn copy_code(f: Form, c: Component, left: &[u8], right: &[u8], l: Head, r: Head) -> u32
+    requires { ⌜ Operand (formOf f) (now left) l × Operand (formOf f) (now right) r ⌝ }
+    ensures { λ o. ⌜ o ≡ firstFailing (copyChecks c (decode (formOf f) (now (left .entry))) (decode (formOf f) (now (right .entry)))) ⌝ }
 {
-    let bounds = bound_code(c, left, right, l, r);
+    let bounds = bound_code(f, c, left, right, l, r);
     let columns = first(NO_COLUMNS, crate::columns_absent(l), 0);
     operands_code(l, r, after(bounds, columns))
 }
 
 // Modulo, Log and Power, after it.
-pub fn last_code(left: &[u8], right: &[u8], l: Head, r: Head) -> u32
-    requires { ⌜ Operand narrow (now left) l × Operand narrow (now right) r ⌝ }
-    ensures { λ o. ⌜ o ≡ firstFailing (lastChecks (decode narrow (now (left .entry))) (decode narrow (now (right .entry)))) ⌝ }
+pub fn last_code(f: Form, left: &[u8], right: &[u8], l: Head, r: Head) -> u32
+    requires { ⌜ Operand (formOf f) (now left) l × Operand (formOf f) (now right) r ⌝ }
+    ensures { λ o. ⌜ o ≡ firstFailing (lastChecks (decode (formOf f) (now (left .entry))) (decode (formOf f) (now (right .entry)))) ⌝ }
 {
-    first(GROUPS, groups_clash(left, right, l, r), 0)
+    first(GROUPS, groups_clash(f, left, right, l, r), 0)
 }

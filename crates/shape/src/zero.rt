@@ -3,11 +3,12 @@ use crate::bounds::Ask;
 use crate::bounds::{self};
 use base::Component;
 use base::form;
+use base::form::Form;
 ghost use mathlib.Core.Path.{_≡_};
 ghost use mathlib.Core.Bool.{false, _||_};
 ghost use lib.Ieee as Ieee;
 ghost use Rattle.numbers.specs.Kind.{zeroFloat};
-ghost use Rattle.base.specs.Form.{narrow};
+ghost use Rattle.base.specs.Form.{formOf};
 ghost use Rattle.base.specs.Decode.{natureIn};
 ghost use Rattle.base.specs.Checks.{holdsFrom, sizesFail, fieldsFail};
 ghost use Rattle.base.specs.Sized.{ListsFit};
@@ -21,13 +22,13 @@ fn nan_or_zero(x: f64) -> bool
 }
 
 // None of the t values is NaN or a zero, in whichever list it stands.
-fn values_apart(s: &[u8], g: usize, n: usize, t: usize) -> bool
-    requires { ⌜ ListsFit narrow (now s) g n t ⌝ }
-    ensures { λ r. ⌜ r ≡ holdsFrom t 0 (valueApart narrow (now (s .entry))) ⌝ }
+fn values_apart(f: Form, s: &[u8], g: usize, n: usize, t: usize) -> bool
+    requires { ⌜ ListsFit (formOf f) (now s) g n t ⌝ }
+    ensures { λ r. ⌜ r ≡ holdsFrom t 0 (valueApart (formOf f) (now (s .entry))) ⌝ }
 {
     let mut i = 0;
     while i < t {
-        let x = base::f64_at(s, form::value_at(g, t, i));
+        let x = base::f64_at(s, f.value_at(g, t, i));
         if nan_or_zero(x) {
             return false;
         }
@@ -36,20 +37,20 @@ fn values_apart(s: &[u8], g: usize, n: usize, t: usize) -> bool
     true
 }
 
-pub fn may_meet_zero(s: &[u8]) -> bool
-    requires { ⌜ (sizesFail narrow (now s) ≡ false) × (fieldsFail narrow (now s) ≡ false) ⌝ }
-    ensures { λ r. ⌜ r ≡ mayMeetZero (natureIn narrow (now (s .entry))) ⌝ }
+pub fn may_meet_zero(f: Form, s: &[u8]) -> bool
+    requires { ⌜ (sizesFail (formOf f) (now s) ≡ false) × (fieldsFail (formOf f) (now s) ≡ false) ⌝ }
+    ensures { λ r. ⌜ r ≡ mayMeetZero (natureIn (formOf f) (now (s .entry))) ⌝ }
 {
-    let sizes = base::sizes_at(s);
+    let sizes = base::sizes_at(f, s);
     let g = sizes.groups;
     let n = sizes.lists;
     let t = sizes.categories;
-    let nature = base::nature_of(s);
+    let nature = base::nature_of(f, s);
     if nature == form::FLOAT_RANGE {
-        return !bounds::every_entry(s, Ask::Apart);
+        return !bounds::every_entry(f, s, Ask::Apart);
     }
     if nature == form::FLOAT_LISTS {
-        return !values_apart(s, g, n, t);
+        return !values_apart(f, s, g, n, t);
     }
     !((nature == form::WHOLE_RANGE) | (nature == form::WHOLE_LISTS) | (nature == form::BOOL_LISTS))
 }
@@ -71,12 +72,12 @@ fn is_divide(c: Component) -> bool
 }
 
 // What the component adds to the nullity, s being the right sheet.
-pub fn adds_nullity(c: Component, s: &[u8]) -> bool
-    requires { ⌜ (sizesFail narrow (now s) ≡ false) × (fieldsFail narrow (now s) ≡ false) ⌝ }
-    ensures { λ r. ⌜ r ≡ addsNullity c (natureIn narrow (now (s .entry))) ⌝ }
+pub fn adds_nullity(f: Form, c: Component, s: &[u8]) -> bool
+    requires { ⌜ (sizesFail (formOf f) (now s) ≡ false) × (fieldsFail (formOf f) (now s) ≡ false) ⌝ }
+    ensures { λ r. ⌜ r ≡ addsNullity c (natureIn (formOf f) (now (s .entry))) ⌝ }
 {
     if is_divide(c) {
-        return may_meet_zero(s);
+        return may_meet_zero(f, s);
     }
     false
 }

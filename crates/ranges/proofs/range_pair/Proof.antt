@@ -6,7 +6,7 @@ use denote.Ref.{now}
 use borrow.Author.Needs.{needs}
 use borrow.Author.Tests.{not-false}
 use Rattle.numbers.specs.Result.{checked}
-use Rattle.base.specs.Form.{narrow}
+use Rattle.base.specs.Form.{formOf}
 use Rattle.base.proofs.Passed.{passed, sized, long-enough, range-fits}
 use Rattle.ranges.specs.Chained.{spreadsOver}
 use Rattle.ranges.proofs.Sheets.{derived-is}
@@ -20,7 +20,7 @@ counted columns e s h = ap (λ (k : ℕ). not (spreadsOver columns k)) (sym e) �
 sizes-at-requires : tie.Need-sizes-at-requires
 sizes-at-requires c κs =
     let b = c .before .before .before .before in
-    long-enough (passed narrow (now (b .args .left)) (b .pre .0))
+    long-enough (passed (formOf (b .args .f)) (now (b .args .left)) (b .pre .0))
 
 returns : tie.Need-returns
 unfolding checked
@@ -28,12 +28,12 @@ returns c =
     let z = c .before .before in
     let a = z .before .before .before .before .before .args in
     let uneven = counted (a .columns) (z .sizes-at .ensures .lists) (c .before .spreads .ensures) (c .if1 .taken) in
-    (rw (derived-is (a .float) (a .c) (a .data-type) (a .columns) (now (a .left)) (now (a .right)), uneven), tt)
+    (rw (derived-is (formOf (a .f)) (a .float) (a .c) (a .data-type) (a .columns) (now (a .left)) (now (a .right)), uneven), tt)
 
 sizes-at-requires-2 : tie.Need-sizes-at-requires-2
 sizes-at-requires-2 c κs =
     let b = c .before .before .before .before .before .before .before in
-    long-enough (passed narrow (now (b .args .right)) (b .pre .2))
+    long-enough (passed (formOf (b .args .f)) (now (b .args .right)) (b .pre .2))
 
 returns-2 : tie.Need-returns-2
 unfolding checked
@@ -44,7 +44,7 @@ returns-2 c =
     let a = z .before .before .before .before .before .args in
     let even = counted (a .columns) (z .sizes-at .ensures .lists) (x .before .spreads .ensures) (x .if1 .left) in
     let uneven = counted (a .columns) (y .sizes-at2 .ensures .lists) (c .before .spreads2 .ensures) (c .if2 .taken) in
-    (rw (derived-is (a .float) (a .c) (a .data-type) (a .columns) (now (a .left)) (now (a .right)), even, uneven), tt)
+    (rw (derived-is (formOf (a .f)) (a .float) (a .c) (a .data-type) (a .columns) (now (a .left)) (now (a .right)), even, uneven), tt)
 
 put-columns-requires : tie.Need-put-columns-requires
 put-columns-requires c κs =
@@ -57,9 +57,9 @@ put-columns-requires c κs =
     let n = z .sizes-at .result .lists in
     let m = y .sizes-at2 .result .lists in
     let columns = b .args .columns in (
-      range-fits (sized narrow (now (b .args .left)) (p .0) (z .sizes-at .ensures)) (p .1),
+      range-fits (sized (formOf (b .args .f)) (now (b .args .left)) (p .0) (z .sizes-at .ensures)) (p .1),
       not-false (spreadsOver columns n) (counted columns refl (x .before .spreads .ensures) (x .if1 .left)),
-      range-fits (sized narrow (now (b .args .right)) (p .2) (y .sizes-at2 .ensures)) (p .3),
+      range-fits (sized (formOf (b .args .f)) (now (b .args .right)) (p .2) (y .sizes-at2 .ensures)) (p .3),
       not-false (spreadsOver columns m) (counted columns refl (w .before .spreads2 .ensures) (w .if2 .left)),
       p .4,
       p .5,
@@ -77,7 +77,7 @@ returns-3 c =
     let a = z .before .before .before .before .before .args in
     let left = counted (a .columns) (z .sizes-at .ensures .lists) (x .before .spreads .ensures) (x .if1 .left) in
     let right = counted (a .columns) (y .sizes-at2 .ensures .lists) (w .before .spreads2 .ensures) (w .if2 .left) in (
-      rw (derived-is (a .float) (a .c) (a .data-type) (a .columns) (now (a .left)) (now (a .right)), left, right) (d .put-columns .ensures .0),
+      rw (derived-is (formOf (a .f)) (a .float) (a .c) (a .data-type) (a .columns) (now (a .left)) (now (a .right)), left, right) (d .put-columns .ensures .0),
       d .put-columns .ensures .1,
     )
 

@@ -3,7 +3,7 @@ use mathlib.Core.Path.{refl}
 use Prim.Native.Nat.{_≤_, _-_}
 use denote.Ref.{now}
 use borrow.Author.Needs.{needs}
-use Rattle.base.specs.Form.{narrow}
+use Rattle.base.specs.Form.{formOf}
 use Rattle.base.specs.Checks.{holdsFrom}
 use Rattle.base.proofs.Holding.{Holding, holding-from-zero, holding-more, holding-failed, holding-done}
 use Rattle.shape.specs.Asked.{entryAsked}
@@ -11,15 +11,15 @@ use Rattle.shape.proofs.bounds.entries_asked.Statement.{statement}
 use Rattle.shape.proofs.bounds.entries_asked.Tie as tie
 
 abbrev Inv-loop : tie.InvT-loop
-Inv-loop s ask floats g n i₀ i = (i ≤ n) × Holding (entryAsked narrow ask floats s) n i (holdsFrom n 0 (entryAsked narrow ask floats s))
+Inv-loop f s ask floats g n i₀ i = (i ≤ n) × Holding (entryAsked (formOf f) ask floats s) n i (holdsFrom n 0 (entryAsked (formOf f) ask floats s))
 
 abbrev μ-loop : tie.MeasureT-loop
-μ-loop s ask floats g n i₀ i = n - i
+μ-loop f s ask floats g n i₀ i = n - i
 
 loop-holds : tie.Need-loop-holds Inv-loop μ-loop
 loop-holds c =
     let a = c .before .args in
-    (search needs, holding-from-zero (entryAsked narrow (a .ask) (a .floats) (now (a .s))) (a .n) refl)
+    (search needs, holding-from-zero (entryAsked (formOf (a .f)) (a .ask) (a .floats) (now (a .s))) (a .n) refl)
 
 returns : tie.Need-returns Inv-loop μ-loop
 returns c =

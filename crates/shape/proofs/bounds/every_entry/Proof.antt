@@ -1,7 +1,7 @@
 -- `shape::bounds::every_entry` meets its contract. Assumes nothing.
 use mathlib.Core.Path.{sym, ap, _∙_}
 use denote.Ref.{now}
-use Rattle.base.specs.Form.{narrow, isRangeNature}
+use Rattle.base.specs.Form.{formOf, isRangeNature}
 use Rattle.base.proofs.Passed.{passed, sized, long-enough, range-fits}
 use Rattle.base.proofs.Natures.{nature-whole-range, nature-float-range}
 use Rattle.shape.proofs.Asks.{every-whole, every-float, no-range-asked}
@@ -9,40 +9,42 @@ use Rattle.shape.proofs.bounds.every_entry.Statement.{statement}
 use Rattle.shape.proofs.bounds.every_entry.Tie as tie
 
 sizes-at-requires : tie.Need-sizes-at-requires
-sizes-at-requires c κs = long-enough (passed narrow (now (c .before .args .s)) (c .before .pre))
+sizes-at-requires c κs = long-enough (passed (formOf (c .before .args .f)) (now (c .before .args .s)) (c .before .pre))
 
 nature-of-requires : tie.Need-nature-of-requires
-nature-of-requires c κs = long-enough (passed narrow (now (c .before .before .args .s)) (c .before .before .pre))
+nature-of-requires c κs = long-enough (passed (formOf (c .before .before .args .f)) (now (c .before .before .args .s)) (c .before .before .pre))
 
 entries-asked-requires : tie.Need-entries-asked-requires
 entries-asked-requires c κs =
     let b = c .before .before .before .before in
-    range-fits (sized narrow (now (b .args .s)) (b .pre) (c .before .before .sizes-at .ensures)) (ap isRangeNature (sym (c .before .nature-of .ensures) ∙ c .if1 .taken))
+    range-fits (sized (formOf (b .args .f)) (now (b .args .s)) (b .pre) (c .before .before .sizes-at .ensures)) (ap isRangeNature (sym (c .before .nature-of .ensures) ∙ c .if1 .taken))
 
 returns : tie.Need-returns
 returns c =
     let z = c .before .before .before in
     let s = now (z .before .before .args .s) in
-    rw (nature-whole-range narrow s (sym (c .before .before .nature-of .ensures) ∙ c .before .if1 .taken), every-whole narrow s (z .before .before .args .ask), ← z .sizes-at .ensures .lists)
+    let F = formOf (z .before .before .args .f) in
+    rw (nature-whole-range F s (sym (c .before .before .nature-of .ensures) ∙ c .before .if1 .taken), every-whole F s (z .before .before .args .ask), ← z .sizes-at .ensures .lists)
     (c .entries-asked .ensures)
 
 entries-asked-requires-2 : tie.Need-entries-asked-requires-2
 entries-asked-requires-2 c κs =
     let b = c .before .before .before .before .before in
-    range-fits (sized narrow (now (b .args .s)) (b .pre) (c .before .before .before .sizes-at .ensures)) (ap isRangeNature (sym (c .before .before .nature-of .ensures) ∙ c .if2 .taken))
+    range-fits (sized (formOf (b .args .f)) (now (b .args .s)) (b .pre) (c .before .before .before .sizes-at .ensures)) (ap isRangeNature (sym (c .before .before .nature-of .ensures) ∙ c .if2 .taken))
 
 returns-2 : tie.Need-returns-2
 returns-2 c =
     let z = c .before .before .before .before in
     let s = now (z .before .before .args .s) in
-    rw (nature-float-range narrow s (sym (c .before .before .before .nature-of .ensures) ∙ c .before .if2 .taken), every-float narrow s (z .before .before .args .ask), ← z .sizes-at .ensures .lists)
+    let F = formOf (z .before .before .args .f) in
+    rw (nature-float-range F s (sym (c .before .before .before .nature-of .ensures) ∙ c .before .if2 .taken), every-float F s (z .before .before .args .ask), ← z .sizes-at .ensures .lists)
     (c .entries-asked2 .ensures)
 
 returns-3 : tie.Need-returns-3
 returns-3 c =
     let a = c .before .before .before .before .before .args in
     let k = c .before .before .nature-of .ensures in
-    sym (no-range-asked narrow (now (a .s)) (a .ask) (λ e. c .before .if1 .left (k ∙ e)) (λ e. c .if2 .left (k ∙ e)))
+    sym (no-range-asked (formOf (a .f)) (now (a .s)) (a .ask) (λ e. c .before .if1 .left (k ∙ e)) (λ e. c .if2 .left (k ∙ e)))
 
 pub every-entry-spec : {M : Type 1} → statement M
 every-entry-spec =

@@ -3,7 +3,7 @@ use mathlib.Core.Path.{ap, _∙_}
 use denote.Ref.{now}
 use borrow.Author.Needs.{needs}
 use Rattle.numbers.specs.Result.{firstFailing}
-use Rattle.base.specs.Form.{narrow}
+use Rattle.base.specs.Form.{formOf}
 use Rattle.base.specs.Sheet.{Fields}
 use Rattle.base.specs.Decode.{decode}
 use Rattle.shape.specs.Orders.{moduloChecks, powerChecks}
@@ -16,7 +16,7 @@ unfolding decode
 modulo c =
     let z = c .before .before .before .before .before in
     rw (c .before .enum-told6 .given .1)
-    (c .modulo-code .ensures ∙ ap (λ (x : Fields). firstFailing (moduloChecks (only x) (decode narrow (now (z .args .right))))) (z .pre .0 .head))
+    (c .modulo-code .ensures ∙ ap (λ (x : Fields). firstFailing (moduloChecks (only x) (decode (formOf (z .args .f)) (now (z .args .right))))) (z .pre .0 .head))
 
 log : tie.Need-returns-7
 unfolding decode
@@ -27,7 +27,7 @@ unfolding decode
 power c =
     let z = c .before .before .before .before .before in
     rw (c .before .enum-told8 .given .1)
-    (c .power-code .ensures ∙ ap (λ (x : Fields). firstFailing (powerChecks (only x) (decode narrow (now (z .args .right))))) (z .pre .0 .head))
+    (c .power-code .ensures ∙ ap (λ (x : Fields). firstFailing (powerChecks (only x) (decode (formOf (z .args .f)) (now (z .args .right))))) (z .pre .0 .head))
 
 pub bound-code-spec : {M : Type 1} → statement M
 unfolding firstFailing

@@ -1,7 +1,7 @@
 -- `shape::codes::pair_code` meets its contract: part by part. Assumes nothing.
 use denote.Ref.{now}
 use borrow.Author.Needs.{needs}
-use Rattle.base.specs.Form.{narrow}
+use Rattle.base.specs.Form.{formOf}
 use Rattle.base.specs.Decode.{decode}
 use Rattle.shape.proofs.Orders.{pair-is}
 use Rattle.shape.proofs.codes.pair_code.Statement.{statement}
@@ -11,7 +11,7 @@ returns : tie.Need-returns
 unfolding decode
 returns c =
     let z = c .before .before .before .before .before .before in
-    rw (c .operands-code .ensures, c .before .first .ensures, c .before .before .shape-code .ensures, c .before .before .before .groups-clash .ensures) (pair-is (decode narrow (now (z .args .left))) (decode narrow (now (z .args .right))) (z .pre .0 .head) (z .pre .1 .head))
+    rw (c .operands-code .ensures, c .before .first .ensures, c .before .before .shape-code .ensures, c .before .before .before .groups-clash .ensures) (pair-is (decode (formOf (z .args .f)) (now (z .args .left))) (decode (formOf (z .args .f)) (now (z .args .right))) (z .pre .0 .head) (z .pre .1 .head))
 
 pub pair-code-spec : {M : Type 1} → statement M
 pair-code-spec =

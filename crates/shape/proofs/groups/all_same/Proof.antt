@@ -3,7 +3,7 @@ use mathlib.Core.Path.{refl}
 use Prim.Native.Nat.{_≤_, _-_}
 use denote.Ref.{now}
 use borrow.Author.Needs.{needs}
-use Rattle.base.specs.Form.{narrow}
+use Rattle.base.specs.Form.{formOf}
 use Rattle.base.specs.Checks.{holdsFrom}
 use Rattle.base.proofs.Holding.{Holding, holding-from-zero, holding-more, holding-failed, holding-done}
 use Rattle.shape.specs.Parts.{groupsMeet}
@@ -11,15 +11,15 @@ use Rattle.shape.proofs.groups.all_same.Statement.{statement}
 use Rattle.shape.proofs.groups.all_same.Tie as tie
 
 abbrev Inv-loop : tie.InvT-loop
-Inv-loop left right g i₀ i = (i ≤ g) × Holding (groupsMeet narrow g left right) g i (holdsFrom g 0 (groupsMeet narrow g left right))
+Inv-loop f left right g i₀ i = (i ≤ g) × Holding (groupsMeet (formOf f) g left right) g i (holdsFrom g 0 (groupsMeet (formOf f) g left right))
 
 abbrev μ-loop : tie.MeasureT-loop
-μ-loop left right g i₀ i = g - i
+μ-loop f left right g i₀ i = g - i
 
 loop-holds : tie.Need-loop-holds Inv-loop μ-loop
 loop-holds c =
     let a = c .before .before .args in
-    (search needs, holding-from-zero (groupsMeet narrow (a .g) (now (a .left)) (now (a .right))) (a .g) refl)
+    (search needs, holding-from-zero (groupsMeet (formOf (a .f)) (a .g) (now (a .left)) (now (a .right))) (a .g) refl)
 
 returns : tie.Need-returns Inv-loop μ-loop
 returns c =

@@ -4,7 +4,7 @@ use mathlib.Core.Bool.{Bool, not}
 use Prim.Native.Nat.{_≤_, _-_}
 use denote.Ref.{now}
 use borrow.Author.Needs.{needs}
-use Rattle.base.specs.Form.{narrow}
+use Rattle.base.specs.Form.{formOf}
 use Rattle.base.specs.Checks.{holdsFrom}
 use Rattle.base.proofs.Holding.{Holding, holding-from-zero, holding-more, holding-failed, holding-done}
 use Rattle.shape.specs.Asked.{valueApart}
@@ -12,15 +12,15 @@ use Rattle.shape.proofs.zero.values_apart.Statement.{statement}
 use Rattle.shape.proofs.zero.values_apart.Tie as tie
 
 abbrev Inv-loop : tie.InvT-loop
-Inv-loop s g n t i₀ i = (i ≤ t) × Holding (valueApart narrow s) t i (holdsFrom t 0 (valueApart narrow s))
+Inv-loop f s g n t i₀ i = (i ≤ t) × Holding (valueApart (formOf f) s) t i (holdsFrom t 0 (valueApart (formOf f) s))
 
 abbrev μ-loop : tie.MeasureT-loop
-μ-loop s g n t i₀ i = t - i
+μ-loop f s g n t i₀ i = t - i
 
 loop-holds : tie.Need-loop-holds Inv-loop μ-loop
 loop-holds c =
     let a = c .before .args in
-    (search needs, holding-from-zero (valueApart narrow (now (a .s))) (a .t) refl)
+    (search needs, holding-from-zero (valueApart (formOf (a .f)) (now (a .s))) (a .t) refl)
 
 returns : tie.Need-returns Inv-loop μ-loop
 returns c =
