@@ -2,21 +2,27 @@
 use mathlib.Core.Path.{_≡_, refl, sym, ap, ap₂, _∙_}
 use mathlib.Core.Bool.{Bool, true, false, cond}
 use mathlib.Core.List.{List, [], _∷_, _++_, append-assoc, append-nil}
+use mathlib.Core.Logic.{⊎-elim}
 use Prim.Native.Nat.{ℕ, zero, suc, _+_, _-_, _<_, _≤_}
 use native.Mathlib.Nat.{add-zero}
 use native.Mathlib.Numerals.{add-one}
 use native.Mathlib.Omega.{arith}
+use lib.IntN.{ℤ}
 use lib.Seq.{drop-cons}
 use lib.ListN.{length, drop, getD, drop-of-length-le, length-map, length-replicate}
 use lib.Dec.{eqb}
 use borrow.Author.Tests.{eqb-true, ne-eqb}
 use Rattle.numbers.specs.Result.{Result, ok, refused, andThen}
+use Rattle.numbers.specs.Kind.{eqZ}
 use Rattle.utilities.specs.Lists.{firsts, repeated, standardized}
 use Rattle.utilities.specs.Columns.{each, eachPair}
 use Rattle.utilities.proofs.Repeated.{standardized-one, standardized-at}
-use Rattle.categories.specs.Categories.{product, combined, mapped}
-use Rattle.categories.specs.Columnwise.{eachFrom, pick, spreadOf, lesserOf, columnOf}
-use Rattle.categories.proofs.Operands.{pick-only, pick-own}
+use Rattle.base.specs.Form.{Form, listCount}
+use Rattle.base.specs.Decode.{asWhole, lists}
+use Rattle.base.specs.declared.Component.{Component}
+use Rattle.categories.specs.Categories.{product, combined, mapped, ruleOf}
+use Rattle.categories.specs.Columnwise.{Alike, eachFrom, behind, pick, spreadOf, lesserOf, columnOf}
+use Rattle.categories.proofs.Operands.{lists-length, pick-only, pick-own}
 
 -- ---- the lesser of two counts
 
@@ -50,10 +56,6 @@ columns-within {k} columns m n h c l = go (eqb m 1) refl h
 
 joins : {Y : Type 0} → Result Y → Result (List Y) → Result (List Y)
 joins g gs = andThen g (λ z. andThen gs (λ zs. ok (z ∷ zs)))
-
--- what was made, and then the rest
-abbrev pub behind : {Y : Type 0} → List Y → Result (List Y) → Result (List Y)
-behind done g = andThen g (λ zs. ok (done ++ zs))
 
 module _ {Y : Type 0} where
   pub behind-none : (g : Result (List Y)) → g ≡ behind [] g
@@ -187,3 +189,18 @@ unfolding columnOf
 column-one {X} true same rule ls ms a b j = ap (λ (l : List X). each (λ a. rule a a) (firsts same l)) (pick-only ls 0 a ∙ sym (pick-only ls j a))
 column-one {X} false same rule ls ms a b j =
     ap₂ (λ (l m : List X). product same rule (firsts same l) (firsts same m)) (pick-only ls 0 a ∙ sym (pick-only ls j a)) (pick-only ms 0 b ∙ sym (pick-only ms j b))
+
+-- column j of the operands' sheets, by a component's rule
+abbrev pub columnIn : Bool → Component → Form → List ℕ → List ℕ → ℕ → Result (List ℤ)
+columnIn alone c F left right = columnOf alone eqZ (ruleOf c) (lists F left asWhole) (lists F right asWhole)
+
+-- the columns from j up to end are all column j
+pub column-alike : (alone : Bool) (c : Component) (F : Form) (left right : List ℕ) (j end : ℕ) {xs : List ℤ} → Alike F left right j end
+    → columnIn alone c F left right j ≡ ok xs → (i : ℕ) → j ≤ i → i < end → columnIn alone c F left right i ≡ ok xs
+column-alike alone c F left right j end {xs} a column i from to =
+    ⊎-elim
+    (λ (e : end ≡ j + 1). let same : i ≡ j = omega arith in rw same column)
+    (λ (e : (listCount F left ≡ 1) × (listCount F right ≡ 1)).
+    let one = column-one alone eqZ (ruleOf c) (lists F left asWhole) (lists F right asWhole) (lists-length F left asWhole ∙ e .0) (lists-length F right asWhole ∙ e .1) in
+    sym (one i) ∙ one j ∙ column)
+    a

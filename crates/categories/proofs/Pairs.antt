@@ -1,10 +1,11 @@
 -- The product of two lists, pair by pair: each result is noted behind those that were seen.
 --     rowFrom, pairsFrom, product-is    the product so computed
 --     row-start .. row-bad              one step of it
---     Storing, storing-..               the store of such a product, which may be too short for it
+--     stored-..                         one result more in a store, which may be too short for them
+--     Making, making-..                 such a product in the making
 -- Assumes nothing.
 use mathlib.Core.Path.{_≡_, refl, sym, ap, subst, _∙_}
-use mathlib.Core.Bool.{Bool, true, false}
+use mathlib.Core.Bool.{Bool, false}
 use mathlib.Core.List.{List, [], _∷_, _++_}
 use Prim.Native.Nat.{ℕ, _+_, _<_, _≤_}
 use native.Mathlib.Numerals.{add-one}
@@ -20,8 +21,7 @@ use Rattle.utilities.specs.Noted.{Begins, Lacks}
 use Rattle.utilities.proofs.Firsts.{noted-new, noted-keeps, firstsFrom-append}
 use Rattle.utilities.proofs.Begins.{begins-room}
 use Rattle.categories.specs.Categories.{pairs, product}
-use Rattle.categories.specs.Answers.{Produces}
-use Rattle.categories.specs.declared.Product.the-variants as P
+use Rattle.categories.specs.Answers.{Stored}
 
 module _ {X : Type 0} (same : X → X → Bool) (rule : X → X → Result X) where
   unfoldable pub rowFrom : List X → X → List X → Result (List X)
@@ -113,70 +113,49 @@ module _ {X : Type 0} (same : X → X → Bool) (rule : X → X → Result X) wh
 
 -- ---- the store
 
--- what was seen stands in the store, or there is more of it than the store has room for
-abbrev pub Held : Bool → ℕ → List ℤ → List ℤ → Type 0
-Held false n store seen = (n ≤ length store) × (take n store ≡ seen)
-Held true n store seen = length store < length seen
+module _ {k : ℕ} {store seen : List ℤ} (s : Stored k store seen) where
+  -- it was full before
+  pub stored-over : (r : ℕ) (x : ℤ) → length store < k → length store < r → Stored r store (noted eqZ seen x)
+  stored-over r x over h = record { holds = λ room. absurd (omega (arith, room, h)); exceeds = λ o. omega (arith, s .exceeds over, noted-keeps eqZ seen x) }
 
--- the whole is what the rest makes of what was seen
-pub record Storing (over : Bool) (n : ℕ) (store : List ℤ) (rest : List ℤ → Result (List ℤ)) (whole : Result (List ℤ)) : Type 0 where
+  -- one result more. v is what the code reads of x
+  module _ {v x : ℤ} (read : v ≡ x) (room : k ≤ length store) {store′ : List ℤ} where
+    pub stored-noted : {m : ℕ} → Begins (noted eqZ (take k store) v) m store store′ → Stored m store′ (noted eqZ seen x)
+    stored-noted {m} b =
+        let same : noted eqZ (take k store) v ≡ noted eqZ seen x = (λ i. noted eqZ (s .holds room i) (read i)) in
+        record { holds = λ h. b .start ∙ same; exceeds = λ h. absurd (omega (arith, h, begins-room b)) }
+
+    pub stored-full : (r : ℕ) → length store < r → Lacks k v store store′ → Stored r store′ (noted eqZ seen x)
+    stored-full r h l =
+        let new : has eqZ x seen ≡ false = sym (λ i. has eqZ (read i) (s .holds room i)) ∙ l .new in
+        let taken : length seen ≡ k = sym (ap length (s .holds room)) ∙ length-take-le k store room in
+        let above : length store′ < length (noted eqZ seen x) =
+        omega (arith, ap length (noted-new eqZ seen x new), length-append seen (x ∷ []), taken, l .full, ap length (l .same))
+        in
+        record { holds = λ o. absurd (omega (arith, o, h, ap length (l .same))); exceeds = λ o. above }
+
+-- the whole is what the rest makes of what was seen, and the store keeps that as far as it has room
+pub record Making (k : ℕ) (store : List ℤ) (rest : List ℤ → Result (List ℤ)) (whole : Result (List ℤ)) : Type 0 where
   pub seen : List ℤ
-  pub held : Held over n store seen
+  pub held : Stored k store seen
   pub left : whole ≡ rest seen
 
-pub storing-start : (store : List ℤ) (rest : List ℤ → Result (List ℤ)) {whole : Result (List ℤ)} → whole ≡ rest [] → Storing false 0 store rest whole
-storing-start store rest e = record { seen = []; held = (omega arith, refl); left = e }
+pub making-start : (store : List ℤ) (rest : List ℤ → Result (List ℤ)) {whole : Result (List ℤ)} → whole ≡ rest [] → Making 0 store rest whole
+making-start store rest e = record { seen = []; held = record { holds = λ h. refl; exceeds = λ h. absurd (omega (arith, h)) }; left = e }
 
-module _ {over : Bool} {n : ℕ} {store : List ℤ} {rest : List ℤ → Result (List ℤ)} {whole : Result (List ℤ)} (s : Storing over n store rest whole) where
-  pub storing-same : (rest′ : List ℤ → Result (List ℤ)) → ((seen : List ℤ) → rest seen ≡ rest′ seen) → Storing over n store rest′ whole
-  storing-same rest′ e = record { seen = s .seen; held = s .held; left = s .left ∙ e (s .seen) }
+module _ {k : ℕ} {store : List ℤ} {rest : List ℤ → Result (List ℤ)} {whole : Result (List ℤ)} (s : Making k store rest whole) where
+  pub making-same : (rest′ : List ℤ → Result (List ℤ)) → ((seen : List ℤ) → rest seen ≡ rest′ seen) → Making k store rest′ whole
+  making-same rest′ e = record { seen = s .seen; held = s .held; left = s .left ∙ e (s .seen) }
 
-  pub storing-refused : {k : ℕ} → ((seen : List ℤ) → rest seen ≡ refused k) → whole ≡ refused k
-  storing-refused e = s .left ∙ e (s .seen)
+  pub making-more : (rest′ : List ℤ → Result (List ℤ)) {v x : ℤ} {r : ℕ} {store′ : List ℤ} → v ≡ x
+      → ((seen : List ℤ) → rest seen ≡ rest′ (noted eqZ seen x))
+      → ((seen : List ℤ) → Stored k store seen → Stored r store′ (noted eqZ seen v))
+      → Making r store′ rest′ whole
+  making-more rest′ {v} {x} {r} {store′} read e step =
+      record { seen = noted eqZ (s .seen) x; held = subst (λ (z : ℤ). Stored r store′ (noted eqZ (s .seen) z)) read (step (s .seen) (s .held)); left = s .left ∙ e (s .seen) }
 
-  storing-held : {b : Bool} → over ≡ b → Held b n store (s .seen)
-  storing-held e = subst (λ (b : Bool). Held b n store (s .seen)) e (s .held)
+  pub making-refused : {code : ℕ} → ((seen : List ℤ) → rest seen ≡ refused code) → whole ≡ refused code
+  making-refused e = s .left ∙ e (s .seen)
 
-  pub storing-room : over ≡ false → n ≤ length store
-  storing-room e = storing-held e .0
-
-  -- one result more: it is noted, or the store is full, or it was full before. v is what the code reads of x
-  module _ (rest′ : List ℤ → Result (List ℤ)) {v x : ℤ} (read : v ≡ x) (e : (seen : List ℤ) → rest seen ≡ rest′ (noted eqZ seen x)) where
-    pub storing-noted : {m : ℕ} {store′ : List ℤ} → over ≡ false → Begins (noted eqZ (take n store) v) m store store′ → Storing over m store′ rest′ whole
-    storing-noted {m} {store′} o b =
-        let h = storing-held o in
-        let same : noted eqZ (take n store) v ≡ noted eqZ (s .seen) x = (λ i. noted eqZ (h .1 i) (read i)) in
-        record {
-          seen = noted eqZ (s .seen) x;
-          held = subst (λ (t : Bool). Held t m store′ (noted eqZ (s .seen) x)) (sym o) (begins-room b, b .start ∙ same);
-          left = s .left ∙ e (s .seen);
-        }
-
-    pub storing-full : {store′ : List ℤ} → over ≡ false → Lacks n v store store′ → Storing true n store′ rest′ whole
-    storing-full {store′} o l =
-        let h = storing-held o in
-        let new : has eqZ x (s .seen) ≡ false = sym (λ i. has eqZ (read i) (h .1 i)) ∙ l .new in
-        let size = length-append (s .seen) (x ∷ []) in
-        let taken : length (s .seen) ≡ n = sym (ap length (h .1)) ∙ length-take-le n store (h .0) in
-        let k : length store′ < length (noted eqZ (s .seen) x) =
-        omega (arith, ap length (noted-new eqZ (s .seen) x new), size, taken, l .full, ap length (l .same))
-        in
-        record { seen = noted eqZ (s .seen) x; held = k; left = s .left ∙ e (s .seen) }
-
-    pub storing-over : over ≡ true → Storing over n store rest′ whole
-    storing-over o =
-        let h = storing-held o in
-        let k : length store < length (noted eqZ (s .seen) x) = omega (arith, h, noted-keeps eqZ (s .seen) x) in
-        record {
-          seen = noted eqZ (s .seen) x;
-          held = subst (λ (t : Bool). Held t n store (noted eqZ (s .seen) x)) (sym o) k;
-          left = s .left ∙ e (s .seen);
-        }
-
-  -- nothing is left
-  module _ (e : (seen : List ℤ) → rest seen ≡ ok seen) where
-    pub storing-holds : over ≡ false → Produces (P.Holds n) store whole
-    storing-holds o = let h = storing-held o in (h .0, s .left ∙ e (s .seen) ∙ ap ok (sym (h .1)))
-
-    pub storing-exceeds : over ≡ true → Produces P.Over store whole
-    storing-exceeds o = (s .seen, s .left ∙ e (s .seen), storing-held o)
+  pub making-done : ((seen : List ℤ) → rest seen ≡ ok seen) → (xs : List ℤ) × (whole ≡ ok xs) × Stored k store xs
+  making-done e = (s .seen, s .left ∙ e (s .seen), s .held)

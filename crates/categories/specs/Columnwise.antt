@@ -1,7 +1,8 @@
 -- Lists combined or mapped column by column, and what an operand's sheet is known to be.
 use mathlib.Core.Path.{_≡_}
 use mathlib.Core.Bool.{Bool, true, false, cond}
-use mathlib.Core.List.{List, [], _∷_}
+use mathlib.Core.Logic.{_⊎_}
+use mathlib.Core.List.{List, [], _∷_, _++_}
 use Prim.Native.Nat.{ℕ, zero, suc, _+_, _<_}
 use lib.ListN.{length, getD}
 use lib.Dec.{eqb}
@@ -27,6 +28,10 @@ unfoldable pub eachFrom : {Y : Type 0} → (ℕ → Result Y) → ℕ → ℕ �
 eachFrom f zero i = ok []
 eachFrom f (suc n) i = andThen (f i) (λ z. andThen (eachFrom f n (i + 1)) (λ zs. ok (z ∷ zs)))
 
+-- what was made, and then the rest
+abbrev pub behind : {Y : Type 0} → List Y → Result (List Y) → Result (List Y)
+behind done g = andThen g (λ zs. ok (done ++ zs))
+
 -- 01: "One list repeats per output column": the list of column j ..
 abbrev pub pick {ℓ} : {X : Type ℓ} → List (List X) → ℕ → List X
 pick ls j = getD ls (cond (eqb (length ls) 1) 0 j) []
@@ -45,3 +50,7 @@ lesserOf (suc a) (suc b) = suc (lesserOf a b)
 unfoldable pub columnOf : {X : Type 0} → Bool → (X → X → Bool) → (X → X → Result X) → List (List X) → List (List X) → ℕ → Result (List X)
 columnOf true same rule ls ms j = each (λ a. rule a a) (firsts same (pick ls j))
 columnOf false same rule ls ms j = product same rule (firsts same (pick ls j)) (firsts same (pick ms j))
+
+-- the columns from j up to end are one, or all are the first: each operand has one list
+abbrev pub Alike : Form → List ℕ → List ℕ → ℕ → ℕ → Type 0
+Alike F left right j end = (end ≡ j + 1) ⊎ ((listCount F left ≡ 1) × (listCount F right ≡ 1))

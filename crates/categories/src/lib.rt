@@ -1,8 +1,8 @@
 // Categories, mapped and combined: from the lists of one sheet or two, the lists of the result, written into two lent buffers.
 use base::Component;
 use base::form;
+use base::form::Form;
 use base::refusals;
-use bytes::Put;
 use numbers::Checked;
 use utilities::Noted;
 use writer::Derived;
@@ -10,23 +10,19 @@ use writer::Parts;
 ghost use mathlib.Core.Path.{_≡_};
 ghost use mathlib.Core.Bool.{true, false};
 ghost use mathlib.Core.List.{List, []};
-ghost use Prim.Native.Nat.{_+_, _*_, _≤_, _<_};
+ghost use Prim.Native.Nat.{ℕ, _+_, _*_, _^_, _≤_, _<_};
 ghost use lib.IntN.{ℤ};
 ghost use lib.ListN.{length, take, getD};
-ghost use Rattle.numbers.specs.Result.{Result};
+ghost use Rattle.numbers.specs.Result.{Result, ok};
 ghost use Rattle.numbers.specs.Kind.{fitting, eqZ};
-ghost use Rattle.utilities.specs.Lists.{firsts};
-ghost use Rattle.utilities.specs.Columns.{each};
-ghost use Rattle.utilities.specs.Noted.{Begins};
-ghost use Rattle.base.specs.Form.{narrow, listCount};
+ghost use Rattle.utilities.specs.Lists.{firsts, noted};
+ghost use Rattle.utilities.specs.Noted.{Begins, Hinting, hintCount};
+ghost use Rattle.base.specs.Form.{formOf, listCount};
 ghost use Rattle.base.specs.Decode.{asWhole, lists};
-ghost use Rattle.writer.specs.Written.{inWriting, derivedIn, Within};
-ghost use Rattle.categories.specs.Categories.{absWhole, product, combined, mapped, limited, ruleOf};
-ghost use Rattle.categories.specs.Columnwise.{Listed, Reaches, eachFrom, pick, spreadOf, lesserOf, columnOf};
-ghost use Rattle.categories.specs.Answers.{Produces, Held, Grown, Adds, gathered};
-
-// A count of categories above the limit; how far above no longer matters.
-const OVER: usize = form::CATEGORY_LIMIT + 1;
+ghost use Rattle.writer.specs.Written.{inWriting, derivedIn, listsRoom, Within};
+ghost use Rattle.categories.specs.Categories.{absWhole, combined, mapped, limited, ruleOf};
+ghost use Rattle.categories.specs.Columnwise.{Listed, Reaches, Alike, eachFrom, pick, spreadOf, lesserOf, columnOf};
+ghost use Rattle.categories.specs.Answers.{Stores, Arrays, Stored, Grown, Columns, gathered};
 
 // ---- the rules
 
@@ -60,26 +56,27 @@ fn category(c: Component, a: i64, b: i64) -> Checked
 // ---- an operand's lists
 
 // List j of a sheet, without repeats, goes to the start of out. Returns how many values it has.
-fn list_into(s: &[u8], j: usize, out: &mut [i64]) -> usize
-    requires { ⌜ Listed narrow (now s) × (j < listCount narrow (now s)) × (narrow .categoryLimit ≤ length (now out)) ⌝ }
-    ensures { λ r. ⌜ Begins (firsts eqZ (getD (lists narrow (now (s .entry)) asWhole) j [])) r (now (out .entry)) (now (out .exit)) ⌝ }
+fn list_into(f: Form, s: &[u8], j: usize, out: &mut [i64], hints: &mut [u8]) -> usize
+    requires { ⌜ Listed (formOf f) (now s) × (j < listCount (formOf f) (now s)) × (formOf f .categoryLimit ≤ length (now out)) × (length (now hints) ≡ hintCount) ⌝ }
+    ensures { λ r. ⌜ Begins (firsts eqZ (getD (lists (formOf f) (now (s .entry)) asWhole) j [])) r (now (out .entry)) (now (out .exit)) ⌝ }
 {
-    let sizes = base::sizes_at(s);
+    let sizes = base::sizes_at(f, s);
     let g = sizes.groups;
+    let lists = sizes.lists;
     let t = sizes.categories;
-    let mut hints = [0u8; utilities::HINTS];
+    utilities::clear_hints(hints);
     let mut n: usize = 0;
     let mut i: usize = 0;
     while i < t {
-        let number = form::number_at(g, i);
-        let at = form::value_at(g, t, i);
+        let number = base::list_number(f, s, g, lists, t, i);
+        let at = f.value_at(g, t, i);
         i += 1;
-        if bytes::wide(base::byte_at(s, number)) != j {
+        if number != j {
             continue;
         }
         let v = base::i64_at(s, at);
         // There is room for every category of a sheet.
-        let Noted::At(m) = utilities::note_hinted(out, n, v, &mut hints) else {
+        let Noted::At(m) = utilities::note_hinted(out, n, v, hints) else {
             return n;
         };
         n = m;
@@ -88,118 +85,22 @@ fn list_into(s: &[u8], j: usize, out: &mut [i64]) -> usize
 }
 
 // The list of column j: one list stands for every column.
-fn column_list(s: &[u8], j: usize, out: &mut [i64]) -> usize
-    requires { ⌜ Listed narrow (now s) × Reaches narrow (now s) j × (narrow .categoryLimit ≤ length (now out)) ⌝ }
-    ensures { λ r. ⌜ Begins (firsts eqZ (pick (lists narrow (now (s .entry)) asWhole) j)) r (now (out .entry)) (now (out .exit)) ⌝ }
+fn column_list(f: Form, s: &[u8], j: usize, out: &mut [i64], hints: &mut [u8]) -> usize
+    requires { ⌜ Listed (formOf f) (now s) × Reaches (formOf f) (now s) j × (formOf f .categoryLimit ≤ length (now out)) × (length (now hints) ≡ hintCount) ⌝ }
+    ensures { λ r. ⌜ Begins (firsts eqZ (pick (lists (formOf f) (now (s .entry)) asWhole) j)) r (now (out .entry)) (now (out .exit)) ⌝ }
 {
-    let sizes = base::sizes_at(s);
+    let sizes = base::sizes_at(f, s);
     if sizes.lists == 1 {
-        return list_into(s, 0, out);
+        return list_into(f, s, 0, out, hints);
     }
-    list_into(s, j, out)
-}
-
-// ---- a column's list
-
-enum Product {
-    // How many values stand in the store.
-    Holds(usize),
-    // There are more values than the store has room for.
-    Over,
-    Refused(u32),
-}
-
-// The pairs of l left and r right values, without repeats. A full store ends nothing: a later pair may still fail, which counts first.
-fn product_into(
-    c: Component,
-    left: &[i64],
-    l: usize,
-    right: &[i64],
-    r: usize,
-    store: &mut [i64],
-) -> Product
-    requires { ⌜ (l ≤ length (now left)) × (r ≤ length (now right)) ⌝ }
-    ensures { λ p. ⌜ Produces p (now (store .exit)) (product eqZ (ruleOf c) (take l (now (left .entry))) (take r (now (right .entry)))) ⌝ }
-{
-    let mut hints = [0u8; utilities::HINTS];
-    let mut code: u32 = 0;
-    let mut over = false;
-    let mut n: usize = 0;
-    let mut i: usize = 0;
-    'pairs: while i < l {
-        let a = left[i];
-        i += 1;
-        let mut j: usize = 0;
-        while j < r {
-            let Checked::Fits(v) = category(c, a, right[j]) else {
-                code = refusals::LEAVES_64_BITS;
-                break 'pairs;
-            };
-            j += 1;
-            if over {
-                continue;
-            }
-            let Noted::At(m) = utilities::note_hinted(store, n, v, &mut hints) else {
-                over = true;
-                continue;
-            };
-            n = m;
-        }
-    }
-    if code != 0 {
-        return Product::Refused(code);
-    }
-    if over {
-        return Product::Over;
-    }
-    Product::Holds(n)
-}
-
-// Each of n values mapped; repeats of the results stay.
-fn map_into(c: Component, list: &[i64], n: usize, store: &mut [i64]) -> Product
-    requires { ⌜ (n ≤ length (now list)) × (n ≤ length (now store)) ⌝ }
-    ensures { λ p. ⌜ Produces p (now (store .exit)) (each (λ a. ruleOf c a a) (take n (now (list .entry)))) ⌝ }
-{
-    let mut i: usize = 0;
-    while i < n {
-        let a = list[i];
-        let Checked::Fits(v) = category(c, a, a) else {
-            return Product::Refused(refusals::LEAVES_64_BITS);
-        };
-        store[i] = v;
-        i += 1;
-    }
-    Product::Holds(n)
-}
-
-// Column j: left's list mapped, or the two lists combined.
-fn column(
-    alone: bool,
-    c: Component,
-    left: &[u8],
-    right: &[u8],
-    j: usize,
-    store: &mut [i64],
-) -> Product
-    requires { ⌜ Listed narrow (now left) × Reaches narrow (now left) j ⌝ }
-    requires { ⌜ Listed narrow (now right) × Reaches narrow (now right) j ⌝ }
-    requires { ⌜ narrow .categoryLimit ≤ length (now store) ⌝ }
-    ensures { λ p. ⌜ Produces p (now (store .exit)) (columnOf alone eqZ (ruleOf c) (lists narrow (now (left .entry)) asWhole) (lists narrow (now (right .entry)) asWhole) j) ⌝ }
-{
-    let mut us = [0i64; form::CATEGORY_LIMIT];
-    let l = column_list(left, j, &mut us);
-    if alone {
-        return map_into(c, &us, l, store);
-    }
-    let mut bs = [0i64; form::CATEGORY_LIMIT];
-    let r = column_list(right, j, &mut bs);
-    product_into(c, &us, l, &bs, r, store)
+    list_into(f, s, j, out, hints)
 }
 
 // ---- the columns, gathered
 
-// List j, of k values, goes behind the t categories that were written. Returns how many there are then, or `OVER`.
+// List j, of k values, goes behind the t categories that were written. Returns how many there are then, or one more than the limit.
 fn append_list(
+    f: Form,
     store: &[i64],
     k: usize,
     j: usize,
@@ -207,131 +108,189 @@ fn append_list(
     numbers: &mut [u8],
     values: &mut [u8],
 ) -> usize
-    requires { ⌜ (k ≤ length (now store)) × (j < 256) × (t ≤ narrow .categoryLimit + 1) ⌝ }
-    requires { ⌜ (narrow .categoryLimit ≤ length (now numbers)) × (8 * narrow .categoryLimit ≤ length (now values)) ⌝ }
-    ensures { λ r. ⌜ Grown (take k (now (store .entry))) j t (now (numbers .entry)) (now (values .entry)) r (now (numbers .exit)) (now (values .exit)) ⌝ }
+    requires { ⌜ (k ≤ formOf f .categoryLimit + 1) × (length (now store) ≡ formOf f .categoryLimit) × (j < formOf f .listLimit) × (t ≤ formOf f .categoryLimit + 1) ⌝ }
+    requires { ⌜ Arrays (formOf f) (now numbers) (now values) ⌝ }
+    ensures { λ r. ⌜ (r ≤ formOf f .categoryLimit + 1) × ((xs : List ℤ) → Stored k (now (store .entry)) xs → Grown (formOf f) xs j t (now (numbers .entry)) (now (values .entry)) r (now (numbers .exit)) (now (values .exit))) ⌝ }
 {
-    if form::CATEGORY_LIMIT < t + k {
-        return OVER;
+    let limit = f.category_limit();
+    if limit < t + k {
+        return limit + 1;
     }
-    let mut at = t;
+    let mut at = f.numbers_length(t);
     let mut place = form::VALUE_WIDTH * t;
     let mut i: usize = 0;
     while i < k {
-        at = bytes::put_u8(numbers, at, j as u8);
+        at = writer::put_number(f, numbers, at, j);
         place = bytes::put_i64(values, place, store[i]);
         i += 1;
     }
-    at
-}
-
-// A column's answer goes behind what was written.
-fn add_column(
-    answer: Product,
-    store: &[i64],
-    j: usize,
-    t: usize,
-    numbers: &mut [u8],
-    values: &mut [u8],
-) -> Put
-    requires { ⌜ Held answer (now store) × (length (now store) ≡ narrow .categoryLimit) × (j < 256) × (t ≤ narrow .categoryLimit + 1) ⌝ }
-    requires { ⌜ (narrow .categoryLimit ≤ length (now numbers)) × (8 * narrow .categoryLimit ≤ length (now values)) ⌝ }
-    ensures { λ r. ⌜ ((g : Result (List ℤ)) → Produces answer (now (store .entry)) g → Adds r g j t (now (numbers .entry)) (now (values .entry)) (now (numbers .exit)) (now (values .exit))) ⌝ }
-{
-    match answer {
-        Product::Holds(k) => Put::At(append_list(store, k, j, t, numbers, values)),
-        Product::Over => Put::At(OVER),
-        Product::Refused(k) => Put::Refused(k),
-    }
+    t + k
 }
 
 // n lists of t categories.
-fn gather(n: usize, t: usize) -> Derived
-    requires { ⌜ (n ≤ narrow .listLimit) × (t ≤ narrow .categoryLimit + 1) ⌝ }
-    ensures { λ r. ⌜ (r ≡ gathered n t) × Within r ⌝ }
+fn gather(f: Form, n: usize, t: usize) -> Derived
+    requires { ⌜ (n ≤ formOf f .listLimit) × (t ≤ formOf f .categoryLimit + 1) ⌝ }
+    ensures { λ r. ⌜ r ≡ gathered (formOf f) n t ⌝ }
 {
-    if form::CATEGORY_LIMIT < t {
+    if f.category_limit() < t {
         return Derived::Refused(refusals::OVER_THE_LIMIT);
     }
     Derived::Nature(Parts {
         nature: form::WHOLE_LISTS,
         entries: n,
         values: t,
-        first: t,
+        first: f.numbers_length(t),
         second: form::VALUE_WIDTH * t,
     })
 }
 
-// n columns in order. Too many categories refuse only when every column has passed.
-fn columns_into(
-    alone: bool,
+// The column behind those that are as column j: where each operand has one list, all are.
+fn column_end(f: Form, left: &[u8], right: &[u8], j: usize, n: usize) -> usize
+    requires { ⌜ Listed (formOf f) (now left) × Listed (formOf f) (now right) × (j < n) ⌝ }
+    ensures { λ r. ⌜ (j < r) × (r ≤ n) × Alike (formOf f) (now (left .entry)) (now (right .entry)) j r ⌝ }
+{
+    let l = base::sizes_at(f, left);
+    let r = base::sizes_at(f, right);
+    if l.lists == 1 {
+        if r.lists == 1 {
+            return n;
+        }
+    }
+    j + 1
+}
+
+// The columns from j up to end, which have the same list of k values, go behind the t categories that were written.
+fn append_columns(
+    f: Form,
+    store: &[i64],
+    k: usize,
+    j: usize,
+    end: usize,
+    t: usize,
+    numbers: &mut [u8],
+    values: &mut [u8],
+) -> usize
+    requires { ⌜ (k ≤ formOf f .categoryLimit + 1) × (length (now store) ≡ formOf f .categoryLimit) × (j ≤ end) × (end ≤ formOf f .listLimit) × (t ≤ formOf f .categoryLimit + 1) ⌝ }
+    requires { ⌜ Arrays (formOf f) (now numbers) (now values) ⌝ }
+    ensures { λ r. ⌜ ((each : ℕ → Result (List ℤ)) (n : ℕ) (xs : List ℤ) → Stored k (now (store .entry)) xs → end ≤ n → ((i : ℕ) → j ≤ i → i < end → each i ≡ ok xs) → Columns (formOf f) each n j t (now (numbers .entry)) (now (values .entry)) → Columns (formOf f) each n end r (now (numbers .exit)) (now (values .exit))) ⌝ }
+{
+    let mut total = t;
+    let mut i = j;
+    while i < end {
+        total = append_list(f, store, k, i, total, numbers, values);
+        i += 1;
+    }
+    total
+}
+
+// ---- the product
+
+// A result goes behind the k that were noted, unless it is among them. Returns how many there are then, or one more than there is room for.
+fn note_result(store: &mut [i64], k: usize, v: i64, hints: &mut [u8]) -> usize
+    requires { ⌜ (k ≤ length (now store) + 1) × (length (now store) < 2 ^ 32) × Hinting (now hints) (take k (now store)) ⌝ }
+    ensures { λ r. ⌜ (r ≤ length (now (store .entry)) + 1) × Hinting (now (hints .exit)) (take r (now (store .exit))) × ((seen : List ℤ) → Stored k (now (store .entry)) seen → Stored r (now (store .exit)) (noted eqZ seen v)) ⌝ }
+{
+    if store.len() < k {
+        return k;
+    }
+    let Noted::At(m) = utilities::note_hinted(store, k, v, hints) else {
+        return k + 1;
+    };
+    m
+}
+
+// n columns in order, of each the pairs, left outer. The first pair that fails ends the whole product; too many categories refuse only when every pair has passed.
+fn products_into(
+    f: Form,
     c: Component,
     n: usize,
     left: &[u8],
     right: &[u8],
+    us: &mut [i64],
+    bs: &mut [i64],
+    store: &mut [i64],
+    hints: &mut [u8],
     numbers: &mut [u8],
     values: &mut [u8],
 ) -> Derived
-    requires { ⌜ Listed narrow (now left) × ((listCount narrow (now left) ≡ 1 → ⊥) → n ≤ listCount narrow (now left)) ⌝ }
-    requires { ⌜ Listed narrow (now right) × ((listCount narrow (now right) ≡ 1 → ⊥) → n ≤ listCount narrow (now right)) ⌝ }
-    requires { ⌜ (n ≤ narrow .listLimit) × (narrow .categoryLimit ≤ length (now numbers)) × (8 * narrow .categoryLimit ≤ length (now values)) ⌝ }
-    ensures { λ r. ⌜ (derivedIn r (now (numbers .exit)) (now (values .exit)) ≡ inWriting narrow (limited (narrow .categoryLimit) (eachFrom (columnOf alone eqZ (ruleOf c) (lists narrow (now (left .entry)) asWhole) (lists narrow (now (right .entry)) asWhole)) n 0))) × Within r ⌝ }
+    requires { ⌜ Listed (formOf f) (now left) × ((listCount (formOf f) (now left) ≡ 1 → ⊥) → n ≤ listCount (formOf f) (now left)) ⌝ }
+    requires { ⌜ Listed (formOf f) (now right) × ((listCount (formOf f) (now right) ≡ 1 → ⊥) → n ≤ listCount (formOf f) (now right)) ⌝ }
+    requires { ⌜ n ≤ formOf f .listLimit ⌝ }
+    requires { ⌜ Stores (formOf f) (now us) (now bs) (now store) (now hints) × Arrays (formOf f) (now numbers) (now values) ⌝ }
+    ensures { λ r. ⌜ (derivedIn r (now (numbers .exit)) (now (values .exit)) ≡ inWriting (formOf f) (limited (formOf f .categoryLimit) (eachFrom (columnOf false eqZ (ruleOf c) (lists (formOf f) (now (left .entry)) asWhole) (lists (formOf f) (now (right .entry)) asWhole)) n 0))) × Within (formOf f) (listsRoom (formOf f)) (now (numbers .exit)) (now (values .exit)) r ⌝ }
 {
-    let mut store = [0i64; form::CATEGORY_LIMIT];
     let mut code: u32 = 0;
     let mut t: usize = 0;
     let mut j: usize = 0;
-    'columns: while j < n {
-        let answer = column(alone, c, left, right, j, &mut store);
-        let put = add_column(answer, &store, j, t, numbers, values);
-        match put {
-            Put::At(next) => {
-                t = next;
-                j += 1;
-            }
-            Put::Refused(k) => {
-                code = k;
-                break 'columns;
+    'product: while j < n {
+        let l = column_list(f, left, j, us, hints);
+        let r = column_list(f, right, j, bs, hints);
+        utilities::clear_hints(hints);
+        let mut k: usize = 0;
+        let mut i: usize = 0;
+        while i < l {
+            let a = us[i];
+            i += 1;
+            let mut m: usize = 0;
+            while m < r {
+                let Checked::Fits(v) = category(c, a, bs[m]) else {
+                    code = refusals::LEAVES_64_BITS;
+                    break 'product;
+                };
+                m += 1;
+                k = note_result(store, k, v, hints);
             }
         }
+        let end = column_end(f, left, right, j, n);
+        t = append_columns(f, store, k, j, end, t, numbers, values);
+        j = end;
     }
     if code != 0 {
         return Derived::Refused(code);
     }
-    gather(n, t)
+    gather(f, n, t)
 }
 
-// n columns that are all the first, which is made once.
-fn repeat_into(
-    alone: bool,
+// n columns in order, of each its values mapped; repeats of the results stay. The first value that fails ends it.
+fn maps_into(
+    f: Form,
     c: Component,
     n: usize,
     left: &[u8],
-    right: &[u8],
+    us: &mut [i64],
+    store: &mut [i64],
+    hints: &mut [u8],
     numbers: &mut [u8],
     values: &mut [u8],
 ) -> Derived
-    requires { ⌜ Listed narrow (now left) × (listCount narrow (now left) ≡ 1) × Listed narrow (now right) × (listCount narrow (now right) ≡ 1) ⌝ }
-    requires { ⌜ (n ≤ narrow .listLimit) × (narrow .categoryLimit ≤ length (now numbers)) × (8 * narrow .categoryLimit ≤ length (now values)) ⌝ }
-    ensures { λ r. ⌜ (derivedIn r (now (numbers .exit)) (now (values .exit)) ≡ inWriting narrow (limited (narrow .categoryLimit) (eachFrom (columnOf alone eqZ (ruleOf c) (lists narrow (now (left .entry)) asWhole) (lists narrow (now (right .entry)) asWhole)) n 0))) × Within r ⌝ }
+    requires { ⌜ Listed (formOf f) (now left) × ((listCount (formOf f) (now left) ≡ 1 → ⊥) → n ≤ listCount (formOf f) (now left)) ⌝ }
+    requires { ⌜ n ≤ formOf f .listLimit ⌝ }
+    requires { ⌜ Stores (formOf f) (now us) (now us) (now store) (now hints) × Arrays (formOf f) (now numbers) (now values) ⌝ }
+    ensures { λ r. ⌜ (derivedIn r (now (numbers .exit)) (now (values .exit)) ≡ inWriting (formOf f) (limited (formOf f .categoryLimit) (eachFrom (columnOf true eqZ (ruleOf c) (lists (formOf f) (now (left .entry)) asWhole) (lists (formOf f) (now (left .entry)) asWhole)) n 0))) × Within (formOf f) (listsRoom (formOf f)) (now (numbers .exit)) (now (values .exit)) r ⌝ }
 {
-    let mut store = [0i64; form::CATEGORY_LIMIT];
-    let answer = column(alone, c, left, right, 0, &mut store);
+    let mut code: u32 = 0;
     let mut t: usize = 0;
     let mut j: usize = 0;
-    while j < n {
-        let put = add_column(answer, &store, j, t, numbers, values);
-        match put {
-            Put::At(next) => {
-                t = next;
-                j += 1;
-            }
-            Put::Refused(k) => {
-                return Derived::Refused(k);
-            }
+    'product: while j < n {
+        let k = column_list(f, left, j, us, hints);
+        let mut i: usize = 0;
+        while i < k {
+            let a = us[i];
+            let Checked::Fits(v) = category(c, a, a) else {
+                code = refusals::LEAVES_64_BITS;
+                break 'product;
+            };
+            store[i] = v;
+            i += 1;
         }
+        let end = column_end(f, left, left, j, n);
+        t = append_columns(f, store, k, j, end, t, numbers, values);
+        j = end;
     }
-    gather(n, t)
+    if code != 0 {
+        return Derived::Refused(code);
+    }
+    gather(f, n, t)
 }
 
 // ---- the operands
@@ -349,63 +308,47 @@ fn lesser(a: usize, b: usize) -> usize
     if a < b { a } else { b }
 }
 
-// The n columns of one operand's lists, or of two operands'. Where each operand has one list, every column is the same.
-fn derive(
-    alone: bool,
-    c: Component,
-    n: usize,
-    left: &[u8],
-    right: &[u8],
-    numbers: &mut [u8],
-    values: &mut [u8],
-) -> Derived
-    requires { ⌜ Listed narrow (now left) × ((listCount narrow (now left) ≡ 1 → ⊥) → n ≤ listCount narrow (now left)) ⌝ }
-    requires { ⌜ Listed narrow (now right) × ((listCount narrow (now right) ≡ 1 → ⊥) → n ≤ listCount narrow (now right)) ⌝ }
-    requires { ⌜ (n ≤ narrow .listLimit) × (narrow .categoryLimit ≤ length (now numbers)) × (8 * narrow .categoryLimit ≤ length (now values)) ⌝ }
-    ensures { λ r. ⌜ (derivedIn r (now (numbers .exit)) (now (values .exit)) ≡ inWriting narrow (limited (narrow .categoryLimit) (eachFrom (columnOf alone eqZ (ruleOf c) (lists narrow (now (left .entry)) asWhole) (lists narrow (now (right .entry)) asWhole)) n 0))) × Within r ⌝ }
-{
-    let l = base::sizes_at(left);
-    let r = base::sizes_at(right);
-    if l.lists == 1 {
-        if r.lists == 1 {
-            return repeat_into(alone, c, n, left, right, numbers, values);
-        }
-    }
-    columns_into(alone, c, n, left, right, numbers, values)
-}
-
 // Abs and Negative: left's lists mapped.
 pub fn lists_alone(
+    f: Form,
     c: Component,
     columns: usize,
     left: &[u8],
+    us: &mut [i64],
+    store: &mut [i64],
+    hints: &mut [u8],
     numbers: &mut [u8],
     values: &mut [u8],
 ) -> Derived
-    requires { ⌜ Listed narrow (now left) × (0 < columns) × (columns ≤ narrow .columnLimit) ⌝ }
-    requires { ⌜ (narrow .categoryLimit ≤ length (now numbers)) × (8 * narrow .categoryLimit ≤ length (now values)) ⌝ }
-    ensures { λ r. ⌜ (derivedIn r (now (numbers .exit)) (now (values .exit)) ≡ inWriting narrow (limited (narrow .categoryLimit) (mapped eqZ (ruleOf c) columns (lists narrow (now (left .entry)) asWhole)))) × Within r ⌝ }
+    requires { ⌜ Listed (formOf f) (now left) × (0 < columns) × (columns ≤ formOf f .columnLimit) ⌝ }
+    requires { ⌜ Stores (formOf f) (now us) (now us) (now store) (now hints) × Arrays (formOf f) (now numbers) (now values) ⌝ }
+    ensures { λ r. ⌜ (derivedIn r (now (numbers .exit)) (now (values .exit)) ≡ inWriting (formOf f) (limited (formOf f .categoryLimit) (mapped eqZ (ruleOf c) columns (lists (formOf f) (now (left .entry)) asWhole)))) × Within (formOf f) (listsRoom (formOf f)) (now (numbers .exit)) (now (values .exit)) r ⌝ }
 {
-    let sizes = base::sizes_at(left);
+    let sizes = base::sizes_at(f, left);
     let n = spread(columns, sizes.lists);
-    derive(true, c, n, left, left, numbers, values)
+    maps_into(f, c, n, left, us, store, hints, numbers, values)
 }
 
 // The others: the two operands' lists combined.
 pub fn lists_pair(
+    f: Form,
     c: Component,
     columns: usize,
     left: &[u8],
     right: &[u8],
+    us: &mut [i64],
+    bs: &mut [i64],
+    store: &mut [i64],
+    hints: &mut [u8],
     numbers: &mut [u8],
     values: &mut [u8],
 ) -> Derived
-    requires { ⌜ Listed narrow (now left) × Listed narrow (now right) × (0 < columns) × (columns ≤ narrow .columnLimit) ⌝ }
-    requires { ⌜ (narrow .categoryLimit ≤ length (now numbers)) × (8 * narrow .categoryLimit ≤ length (now values)) ⌝ }
-    ensures { λ r. ⌜ (derivedIn r (now (numbers .exit)) (now (values .exit)) ≡ inWriting narrow (limited (narrow .categoryLimit) (combined eqZ (ruleOf c) columns (lists narrow (now (left .entry)) asWhole) (lists narrow (now (right .entry)) asWhole)))) × Within r ⌝ }
+    requires { ⌜ Listed (formOf f) (now left) × Listed (formOf f) (now right) × (0 < columns) × (columns ≤ formOf f .columnLimit) ⌝ }
+    requires { ⌜ Stores (formOf f) (now us) (now bs) (now store) (now hints) × Arrays (formOf f) (now numbers) (now values) ⌝ }
+    ensures { λ r. ⌜ (derivedIn r (now (numbers .exit)) (now (values .exit)) ≡ inWriting (formOf f) (limited (formOf f .categoryLimit) (combined eqZ (ruleOf c) columns (lists (formOf f) (now (left .entry)) asWhole) (lists (formOf f) (now (right .entry)) asWhole)))) × Within (formOf f) (listsRoom (formOf f)) (now (numbers .exit)) (now (values .exit)) r ⌝ }
 {
-    let l = base::sizes_at(left);
-    let r = base::sizes_at(right);
+    let l = base::sizes_at(f, left);
+    let r = base::sizes_at(f, right);
     let n = lesser(spread(columns, l.lists), spread(columns, r.lists));
-    derive(false, c, n, left, right, numbers, values)
+    products_into(f, c, n, left, right, us, bs, store, hints, numbers, values)
 }

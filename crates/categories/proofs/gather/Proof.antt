@@ -1,21 +1,32 @@
 -- `categories::gather` meets its contract. Assumes nothing.
+use native.Mathlib.Omega.{arith}
 use borrow.Author.Needs.{needs}
 use borrow.Author.Tests.{lt-ltb, le-ltb}
-use native.Mathlib.Omega.{arith}
-use Rattle.base.specs.Form.{narrow}
+use Rattle.base.specs.Form.{formOf}
+use Rattle.base.proofs.Forms.{small}
 use Rattle.categories.specs.Answers.{gathered}
 use Rattle.categories.proofs.gather.Statement.{statement}
 use Rattle.categories.proofs.gather.Tie as tie
 
 returns : tie.Need-returns
 unfolding gathered
-returns c = (rw (lt-ltb (narrow .categoryLimit) (c .before .args .t) (c .if1 .taken)), tt)
+returns c =
+    let a = c .before .before .args in
+    rw (lt-ltb (formOf (a .f) .categoryLimit) (a .t) (omega arith))
 
 returns-2 : tie.Need-returns-2
 unfolding gathered
 returns-2 c =
-    let h = le-ltb (narrow .categoryLimit) (c .before .args .t) (omega arith) in
-    (rw h, record { entries = omega arith; values = omega arith; first = omega arith; second = omega arith; both = omega arith })
+    let a = c .before .before .before .args in
+    let F = formOf (a .f) in
+    rw (le-ltb (F .categoryLimit) (a .t) (omega arith), c .numbers-length .ensures .0)
 
 pub gather-spec : {M : Type 1} → statement M
-gather-spec = tie.close (tie.spec returns (λ c. search needs) returns-2)
+gather-spec =
+    tie.close
+    (tie.spec
+    (λ c κs. search needs)
+    returns
+    (λ c κs. let s = small (c .before .before .args .f) in search needs)
+    (λ c. let s = small (c .before .before .before .args .f) in search needs)
+    returns-2)
