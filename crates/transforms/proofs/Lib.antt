@@ -1,5 +1,6 @@
 -- What the proofs of several functions cite.
 pub mod Passing
+pub mod Lending
 pub mod Clear
 pub mod Never
 pub mod Numberless

@@ -14,7 +14,7 @@ use lib.Dec.{eqb}
 use borrow.Author.Tests.{eqb-false, ne-eqb, eq-eqb}
 use Rattle.numbers.specs.Result.{Result, refused, check, checked, firstFailing}
 use Rattle.numbers.specs.Kind.{eqZ}
-use Rattle.base.specs.Form.{narrow, byteAt, natureAt, isRangeNature, listCount, floatListsNature}
+use Rattle.base.specs.Form.{Form, byteAt, natureAt, isRangeNature, listCount, floatListsNature}
 use Rattle.base.specs.Sheet.{Nature}
 use Rattle.base.specs.Decode.{asWhole, natureIn, lists}
 use Rattle.base.specs.Encode.{natureNumber, entryCount}
@@ -86,28 +86,28 @@ abbrev pub codeFrom : ℕ → ℕ → ℕ
 codeFrom nature n = code (eqb nature floatListsNature) (eqb n 0)
 
 -- categories that 19 and 20 pass
-pub record Fine (s : List ℕ) : Type 0 where
-  pub lists : Lists s
-  pub codes : code (isFloatLists (natureIn narrow s)) (noLists (natureIn narrow s)) ≡ 0
+pub record Fine (F : Form) (s : List ℕ) : Type 0 where
+  pub lists : Lists F s
+  pub codes : code (isFloatLists (natureIn F s)) (noLists (natureIn F s)) ≡ 0
 
-module _ {s : List ℕ} (l : Lists s) {n k : ℕ} (e : n ≡ listCount narrow s) (h : k ≡ codeFrom (byteAt narrow natureAt s) n) where
-  code-is : k ≡ code (isFloatLists (natureIn narrow s)) (noLists (natureIn narrow s))
-  code-is = h ∙ ap₂ codeFrom (sym (number-of s (l .read))) (e ∙ sym (count-of s l))
+module _ {F : Form} {s : List ℕ} (l : Lists F s) {n k : ℕ} (e : n ≡ listCount F s) (h : k ≡ codeFrom (byteAt F natureAt s) n) where
+  code-is : k ≡ code (isFloatLists (natureIn F s)) (noLists (natureIn F s))
+  code-is = h ∙ ap₂ codeFrom (sym (number-of F s (l .read))) (e ∙ sym (count-of F s l))
 
-  pub fine : k ≡ 0 → Fine s
+  pub fine : k ≡ 0 → Fine F s
   fine z = record { lists = l; codes = sym code-is ∙ z }
 
-module _ {s : List ℕ} (f : Fine s) where
-  no-float : byteAt narrow natureAt s ≡ 5 → ⊥
+module _ {F : Form} {s : List ℕ} (f : Fine F s) where
+  no-float : byteAt F natureAt s ≡ 5 → ⊥
   no-float e =
-      eqb-false (natureNumber (natureIn narrow s)) 5
-      (codes-none (isFloatLists (natureIn narrow s)) (noLists (natureIn narrow s)) (f .codes) .0)
-      (number-of s (f .lists .read) ∙ e)
+      eqb-false (natureNumber (natureIn F s)) 5
+      (codes-none (isFloatLists (natureIn F s)) (noLists (natureIn F s)) (f .codes) .0)
+      (number-of F s (f .lists .read) ∙ e)
 
   -- neither bool nor float
-  pub is-whole : (byteAt narrow natureAt s ≡ 4 → ⊥) → byteAt narrow natureAt s ≡ 3
+  pub is-whole : (byteAt F natureAt s ≡ 4 → ⊥) → byteAt F natureAt s ≡ 3
   is-whole other =
-      go (byteAt narrow natureAt s) (nature-within s (f .lists .read)) (f .lists .present) (f .lists .no-range) other no-float
+      go (byteAt F natureAt s) (nature-within F s (f .lists .read)) (f .lists .present) (f .lists .no-range) other no-float
     where
       go : (k : ℕ) → k ≤ 5 → eqb k 0 ≡ false → isRangeNature k ≡ false → (k ≡ 4 → ⊥) → (k ≡ 5 → ⊥) → k ≡ 3
       go zero h p r x y = absurd (yes-no p)
@@ -118,12 +118,12 @@ module _ {s : List ℕ} (f : Fine s) where
       go (suc (suc (suc (suc (suc zero))))) h p r x y = absurd (y refl)
       go (suc (suc (suc (suc (suc (suc k)))))) h p r x y = absurd (omega arith)
 
-  pub fine-listed : byteAt narrow natureAt s ≡ 3 → Listed narrow s
+  pub fine-listed : byteAt F natureAt s ≡ 3 → Listed F s
   fine-listed e =
-      let some-list = codes-none (isFloatLists (natureIn narrow s)) (noLists (natureIn narrow s)) (f .codes) .1 in
-      let other = eqb-false (entryCount (natureIn narrow s)) 0 some-list in
-      let same = count-of s (f .lists) in
-      record { passed = f .lists .read .sizes; nature = e; some = go (listCount narrow s) (λ z. other (same ∙ z)) }
+      let some-list = codes-none (isFloatLists (natureIn F s)) (noLists (natureIn F s)) (f .codes) .1 in
+      let other = eqb-false (entryCount (natureIn F s)) 0 some-list in
+      let same = count-of F s (f .lists) in
+      record { passed = f .lists .read .sizes; nature = e; some = go (listCount F s) (λ z. other (same ∙ z)) }
     where
       go : (n : ℕ) → (n ≡ 0 → ⊥) → 0 < n
       go n h = omega (arith, h)
@@ -160,82 +160,82 @@ module _ (limit : ℕ) (c : Component) (type columns : ℕ) where
   abbrev mapping : Nature → Result Nature
   mapping l = ruled (ruleFor c type l) (λ rule. limited limit (mapped eqZ rule columns (wholeListsOf l)))
 
-  module _ (left right : List ℕ) where
+  module _ (F : Form) (left right : List ℕ) where
     abbrev l : Nature
-    l = natureIn narrow left
+    l = natureIn F left
 
     abbrev r : Nature
-    r = natureIn narrow right
+    r = natureIn F right
 
     abbrev differ : Bool
     differ = not (eqb (natureNumber l) (natureNumber r))
 
-    pub left-fails : Lists left → {n k : ℕ} → n ≡ listCount narrow left → k ≡ codeFrom (byteAt narrow natureAt left) n → (k ≡ 0 → ⊥) → listsPair limit c type columns l r ≡ refused k
+    pub left-fails : Lists F left → {n k : ℕ} → n ≡ listCount F left → k ≡ codeFrom (byteAt F natureAt left) n → (k ≡ 0 → ⊥) → listsPair limit c type columns l r ≡ refused k
     unfolding listsPair
     left-fails x e h z = first-fails (isFloatLists l) (noLists l) (isFloatLists r) (noLists r) differ (combining l r) (code-is x e h) z
 
-    pub right-fails : Fine left → Lists right → {n k : ℕ} → n ≡ listCount narrow right → k ≡ codeFrom (byteAt narrow natureAt right) n → (k ≡ 0 → ⊥) → listsPair limit c type columns l r ≡ refused k
+    pub right-fails : Fine F left → Lists F right → {n k : ℕ} → n ≡ listCount F right → k ≡ codeFrom (byteAt F natureAt right) n → (k ≡ 0 → ⊥) → listsPair limit c type columns l r ≡ refused k
     unfolding listsPair
     right-fails f y e h z = second-fails (isFloatLists l) (noLists l) (isFloatLists r) (noLists r) differ (combining l r) (f .codes) (code-is y e h) z
 
-    module _ (f : Fine left) (g : Fine right) where
+    module _ (f : Fine F left) (g : Fine F right) where
       opened : listsPair limit c type columns l r ≡ cond differ (refused 21) (combining l r)
       unfolding listsPair
       opened = both-pass (isFloatLists l) (noLists l) (isFloatLists r) (noLists r) differ (combining l r) (f .codes) (g .codes)
 
-      pub unequal-lists : (byteAt narrow natureAt left ≡ byteAt narrow natureAt right → ⊥) → listsPair limit c type columns l r ≡ refused 21
+      pub unequal-lists : (byteAt F natureAt left ≡ byteAt F natureAt right → ⊥) → listsPair limit c type columns l r ≡ refused 21
       unequal-lists d =
-          let x = number-of left (f .lists .read) in
-          let y = number-of right (g .lists .read) in
+          let x = number-of F left (f .lists .read) in
+          let y = number-of F right (g .lists .read) in
           opened ∙ ap (λ (b : Bool). cond (not b) (refused 21) (combining l r)) (ne-eqb (natureNumber l) (natureNumber r) (λ e. d (sym x ∙ e ∙ y)))
 
-      equal-lists : byteAt narrow natureAt left ≡ byteAt narrow natureAt right → listsPair limit c type columns l r ≡ combining l r
+      equal-lists : byteAt F natureAt left ≡ byteAt F natureAt right → listsPair limit c type columns l r ≡ combining l r
       equal-lists d =
-          let x = number-of left (f .lists .read) in
-          let y = number-of right (g .lists .read) in
+          let x = number-of F left (f .lists .read) in
+          let y = number-of F right (g .lists .read) in
           opened ∙ ap (λ (b : Bool). cond (not b) (refused 21) (combining l r)) (eq-eqb (natureNumber l) (natureNumber r) (x ∙ d ∙ sym y))
 
-      pub bool-pair : byteAt narrow natureAt left ≡ byteAt narrow natureAt right → byteAt narrow natureAt left ≡ 4 → listsPair limit c type columns l r ≡ refused 22
-      bool-pair d e = equal-lists d ∙ ap (λ (k : Nature). combining k r) (nature-bool-lists narrow left e)
+      pub bool-pair : byteAt F natureAt left ≡ byteAt F natureAt right → byteAt F natureAt left ≡ 4 → listsPair limit c type columns l r ≡ refused 22
+      bool-pair d e = equal-lists d ∙ ap (λ (k : Nature). combining k r) (nature-bool-lists F left e)
 
-      module _ (d : byteAt narrow natureAt left ≡ byteAt narrow natureAt right) (e : byteAt narrow natureAt left ≡ 3) where
+      module _ (d : byteAt F natureAt left ≡ byteAt F natureAt right) (e : byteAt F natureAt left ≡ 3) where
         whole-pair : listsPair limit c type columns l r
-            ≡ ruled (categoryRule c type) (λ rule. limited limit (combined eqZ rule columns (lists narrow left asWhole) (lists narrow right asWhole)))
+            ≡ ruled (categoryRule c type) (λ rule. limited limit (combined eqZ rule columns (lists F left asWhole) (lists F right asWhole)))
         whole-pair =
             equal-lists d
-            ∙ ap₂ (λ (x y : Nature). combining x y) (nature-whole-lists narrow left e) (nature-whole-lists narrow right (sym d ∙ e))
+            ∙ ap₂ (λ (x y : Nature). combining x y) (nature-whole-lists F left e) (nature-whole-lists F right (sym d ∙ e))
 
-        pub no-rule : Reached c type right → hasRule (familyOf c) ≡ false → listsPair limit c type columns l r ≡ refused 22
+        pub no-rule : Reached F c type right → hasRule (familyOf c) ≡ false → listsPair limit c type columns l r ≡ refused 22
         no-rule reached n =
             ⊎-elim
             (λ h.
             whole-pair
-            ∙ ap (λ (o : Option (ℤ → ℤ → Result ℤ)). ruled o (λ rule. limited limit (combined eqZ rule columns (lists narrow left asWhole) (lists narrow right asWhole)))) (rule-is c type h ∙ ap (λ (t : Bool). cond t (some (ruleOf c)) none) n))
+            ∙ ap (λ (o : Option (ℤ → ℤ → Result ℤ)). ruled o (λ rule. limited limit (combined eqZ rule columns (lists F left asWhole) (lists F right asWhole)))) (rule-is c type h ∙ ap (λ (t : Bool). cond t (some (ruleOf c)) none) n))
             (λ h. absurd (yes-no (sym h ∙ g .lists .no-range)))
             reached
 
-        pub pair-ruled : hasRule (familyOf c) ≡ true → listsPair limit c type columns l r ≡ limited limit (combined eqZ (ruleOf c) columns (lists narrow left asWhole) (lists narrow right asWhole))
+        pub pair-ruled : hasRule (familyOf c) ≡ true → listsPair limit c type columns l r ≡ limited limit (combined eqZ (ruleOf c) columns (lists F left asWhole) (lists F right asWhole))
         pair-ruled h =
             whole-pair
-            ∙ ap (λ (o : Option (ℤ → ℤ → Result ℤ)). ruled o (λ rule. limited limit (combined eqZ rule columns (lists narrow left asWhole) (lists narrow right asWhole)))) (rule-some c type h)
+            ∙ ap (λ (o : Option (ℤ → ℤ → Result ℤ)). ruled o (λ rule. limited limit (combined eqZ rule columns (lists F left asWhole) (lists F right asWhole)))) (rule-some c type h)
 
   -- ---- one operand
 
-  module _ {s : List ℕ} where
-    pub alone-fails : Lists s → {n k : ℕ} → n ≡ listCount narrow s → k ≡ codeFrom (byteAt narrow natureAt s) n → (k ≡ 0 → ⊥) → listsAlone limit c type columns (natureIn narrow s) ≡ refused k
+  module _ {F : Form} {s : List ℕ} where
+    pub alone-fails : Lists F s → {n k : ℕ} → n ≡ listCount F s → k ≡ codeFrom (byteAt F natureAt s) n → (k ≡ 0 → ⊥) → listsAlone limit c type columns (natureIn F s) ≡ refused k
     unfolding listsAlone
-    alone-fails x e h z = one-fails (isFloatLists (natureIn narrow s)) (noLists (natureIn narrow s)) (mapping (natureIn narrow s)) (code-is x e h) z
+    alone-fails x e h z = one-fails (isFloatLists (natureIn F s)) (noLists (natureIn F s)) (mapping (natureIn F s)) (code-is x e h) z
 
-    module _ (f : Fine s) where
-      alone-opened : listsAlone limit c type columns (natureIn narrow s) ≡ mapping (natureIn narrow s)
+    module _ (f : Fine F s) where
+      alone-opened : listsAlone limit c type columns (natureIn F s) ≡ mapping (natureIn F s)
       unfolding listsAlone
-      alone-opened = one-passes (isFloatLists (natureIn narrow s)) (noLists (natureIn narrow s)) (mapping (natureIn narrow s)) (f .codes)
+      alone-opened = one-passes (isFloatLists (natureIn F s)) (noLists (natureIn F s)) (mapping (natureIn F s)) (f .codes)
 
-      pub bool-alone : byteAt narrow natureAt s ≡ 4 → listsAlone limit c type columns (natureIn narrow s) ≡ refused 22
-      bool-alone e = alone-opened ∙ ap (λ (k : Nature). mapping k) (nature-bool-lists narrow s e)
+      pub bool-alone : byteAt F natureAt s ≡ 4 → listsAlone limit c type columns (natureIn F s) ≡ refused 22
+      bool-alone e = alone-opened ∙ ap (λ (k : Nature). mapping k) (nature-bool-lists F s e)
 
-      pub alone-ruled : byteAt narrow natureAt s ≡ 3 → hasRule (familyOf c) ≡ true → listsAlone limit c type columns (natureIn narrow s) ≡ limited limit (mapped eqZ (ruleOf c) columns (lists narrow s asWhole))
+      pub alone-ruled : byteAt F natureAt s ≡ 3 → hasRule (familyOf c) ≡ true → listsAlone limit c type columns (natureIn F s) ≡ limited limit (mapped eqZ (ruleOf c) columns (lists F s asWhole))
       alone-ruled e h =
           alone-opened
-          ∙ ap (λ (k : Nature). mapping k) (nature-whole-lists narrow s e)
-          ∙ ap (λ (o : Option (ℤ → ℤ → Result ℤ)). ruled o (λ rule. limited limit (mapped eqZ rule columns (lists narrow s asWhole)))) (rule-some c type h)
+          ∙ ap (λ (k : Nature). mapping k) (nature-whole-lists F s e)
+          ∙ ap (λ (o : Option (ℤ → ℤ → Result ℤ)). ruled o (λ rule. limited limit (mapped eqZ rule columns (lists F s asWhole)))) (rule-some c type h)

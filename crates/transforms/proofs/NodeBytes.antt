@@ -11,12 +11,11 @@ use Rattle.bytes.specs.Le.{leAt}
 use Rattle.bytes.proofs.Round.{leAt-cong}
 use Rattle.numbers.specs.Result.{ok}
 use Rattle.utilities.specs.Lists.{listFrom}
-use Rattle.base.specs.Form.{Form, groupCount, listCount, categoryCount, place, byteAt, natureAt, typeAt, nullityAt, releasableAt, notEmptyAt, orderedAt, cStabilityAt, aggregatorAt, rowsMarkAt, columnsMarkAt, datasetMarkAt, dimensionalityMarkAt, sampleMarkAt, reservedAt, reservedCount, rowsAt, columnsAt, datasetAt, dimensionalityAt, sampleAt, nodeAt, fieldsEnd, partitionAt, keyAt, lowerAt, upperAt, numberAt, valueAt}
+use Rattle.base.specs.Form.{Form, Laid, groupCount, listCount, categoryCount, place, byteAt, natureAt, typeAt, nullityAt, releasableAt, notEmptyAt, orderedAt, cStabilityAt, aggregatorAt, rowsMarkAt, columnsMarkAt, datasetMarkAt, dimensionalityMarkAt, sampleMarkAt, reservedAt, reservedCount, rowsAt, columnsAt, datasetAt, dimensionalityAt, sampleAt, nodeAt, fieldsEnd, partitionAt, keyAt, lowerAt, upperAt, numberAt, valueAt}
 use Rattle.base.specs.Decode.{asWhole, asFloat, asBits, optionAt, endAt, listNumber, categoryAt, listAt, entries, lists, natureIn, fieldsIn, groupsIn, decode}
-use Rattle.base.specs.Checks.{holdsFrom, sizesFail, bytesPermitted, valuesPermitted, keyPermitted, groupsPermitted, endPermitted, rangePermitted, numberPermitted, valuePermitted, listsPermitted, naturePermitted, fieldsFail, sheetChecks, read}
+use Rattle.base.specs.Checks.{holdsFrom, sizesFail, gapPermitted, bytesPermitted, valuesPermitted, keyPermitted, groupsPermitted, endPermitted, rangePermitted, numberPermitted, valuePermitted, listsPermitted, naturePermitted, fieldsFail, sheetChecks, read}
 use Rattle.base.specs.Code.{codeOf}
 use Rattle.base.specs.declared.Component.{Component}
-use Rattle.writer.specs.Laid.{Laid}
 use Rattle.transforms.specs.Single.{step}
 use Rattle.transforms.proofs.Numberless.{Alike, checked-alike, step-alike}
 
@@ -70,6 +69,14 @@ module _ {F : Form} (laid : Laid F) {s s′ : List ℕ} (same : Elsewhere F s s�
   reserved zero k h = refl
   reserved (suc n) k h = ap₂ _&&_ (ap (λ (b : ℕ). eqb b 0) (byte k (omega arith))) (reserved n (k + 1) (omega arith))
 
+  zeros-behind : (n k : ℕ) → place F fieldsEnd ≤ k → holdsFrom n k (λ j. eqb (getD s j 0) 0) ≡ holdsFrom n k (λ j. eqb (getD s′ j 0) 0)
+  unfolding holdsFrom
+  zeros-behind zero k h = refl
+  zeros-behind (suc n) k h = ap₂ _&&_ (ap (λ (b : ℕ). eqb b 0) (same .behind k h)) (zeros-behind n (k + 1) (omega arith))
+
+  gap-permitted : gapPermitted F s ≡ gapPermitted F s′
+  gap-permitted = zeros-behind (F .arraysAt - place F fieldsEnd) (place F fieldsEnd) (omega arith)
+
   bytes-permitted : bytesPermitted F s ≡ bytesPermitted F s′
   unfolding bytesPermitted
   bytes-permitted =
@@ -81,6 +88,7 @@ module _ {F : Form} (laid : Laid F) {s s′ : List ℕ} (same : Elsewhere F s s�
         byte notEmptyAt (omega arith),
         byte orderedAt (omega arith),
         reserved reservedCount reservedAt (omega arith),
+        gap-permitted,
       )
 
   values-permitted : valuesPermitted F s ≡ valuesPermitted F s′

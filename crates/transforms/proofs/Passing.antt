@@ -1,4 +1,5 @@
 -- What operands that passed their checks are known to be.
+--     stands                                       their fields stand in them
 --     unary-columns, pair-columns, copy-columns    the output columns are within their limits
 --     bounds-int, reached                          15 has kept categories on the right from Modulo and Int Power
 -- Assumes nothing.
@@ -9,12 +10,13 @@ use mathlib.Core.Option.{Option, none, some, Option·getD}
 use mathlib.Core.Logic.{_⊎_, inl, inr, ⊎-elim}
 use Prim.Native.Nat.{ℕ, _≤_, _<_}
 use native.Mathlib.Omega.{arith}
+use lib.ListN.{length}
 use lib.Dec.{T, eqb}
 use borrow.Author.Tests.{not-true, not-false, eq-eqb, eqb-true}
 use Rattle.numbers.specs.Result.{Check, check, firstFailing}
 use Rattle.utilities.specs.Lists.{every}
 use Rattle.utilities.proofs.Built.{both-hold}
-use Rattle.base.specs.Form.{narrow, byteAt, natureAt, isRangeNature, intType, floatType}
+use Rattle.base.specs.Form.{Form, byteAt, natureAt, isRangeNature, intType, floatType}
 use Rattle.base.specs.Sheet.{Fields, Sheet, Nature, absent, wholeRange, floatRange, wholeLists, boolLists, floatLists}
 use Rattle.base.specs.Decode.{asFloat, asWhole, asBits, entries, lists, fieldsIn, natureIn, decode}
 use Rattle.base.specs.Checks.{fieldsFail}
@@ -23,12 +25,16 @@ use Rattle.base.specs.Components.{familyOf}
 use Rattle.base.specs.declared.Component.{Component}
 use Rattle.base.specs.declared.Component.the-variants as C
 use Rattle.base.proofs.Flags.{or-no}
+use Rattle.base.proofs.Passed.{passed, long-enough}
 use Rattle.base.proofs.Permitted.{permitted, columns-within}
 use Rattle.shape.specs.Shape.{columnsOf, columnsAbsent, widest}
 use Rattle.shape.specs.Orders.{unaryChecks, pairChecks, boundChecks, copyChecks}
 use Rattle.shape.proofs.Refusals.{Numbered}
 use Rattle.shape.proofs.Orders.{unary-numbered, pair-numbered, copy-numbered}
-use Rattle.transforms.specs.Code.{isIntCopy, Reached}
+use Rattle.transforms.specs.Code.{Read, isIntCopy, Reached}
+
+pub stands : {F : Form} {s : List ℕ} → Read F s → F .arraysAt ≤ length s
+stands {F} {s} r = long-enough (passed F s (r .sizes))
 
 -- ---- checks in a row, none of which fails
 
@@ -54,63 +60,63 @@ pass-parts (c ∷ cs) ds p = let r = pass-parts cs ds (p .1) in ((p .0, r .0), r
 
 -- ---- columns
 
-abbrev Limited : ℕ → Type 0
-Limited n = (0 < n) × (n ≤ narrow .columnLimit)
+abbrev Limited : Form → ℕ → Type 0
+Limited F n = (0 < n) × (n ≤ F .columnLimit)
 
--- 11 has kept an absent count out, and 4 any other than 1 to 16
-columns-limited : (s : List ℕ) → fieldsFail narrow s ≡ false → columnsAbsent (fieldsIn narrow s) ≡ false → Limited (columnsOf (fieldsIn narrow s))
-columns-limited s h e = go (fieldsIn narrow s .columns) refl e
+-- 11 has kept an absent count out, and 4 any beyond the limit
+columns-limited : (F : Form) (s : List ℕ) → fieldsFail F s ≡ false → columnsAbsent (fieldsIn F s) ≡ false → Limited F (columnsOf (fieldsIn F s))
+columns-limited F s h e = go (fieldsIn F s .columns) refl e
   where
-    go : (o : Option ℕ) → fieldsIn narrow s .columns ≡ o → not (isPresent o) ≡ false → Limited (Option·getD o 0)
+    go : (o : Option ℕ) → fieldsIn F s .columns ≡ o → not (isPresent o) ≡ false → Limited F (Option·getD o 0)
     go none x y = absurd (subst T y tt)
-    go (some c) x y = columns-within narrow s (permitted narrow s h) x
+    go (some c) x y = columns-within F s (permitted F s h) x
 
 pub unary-columns :
-    (s : List ℕ) → fieldsFail narrow s ≡ false → {x : Fields} {columns : ℕ} → x ≡ fieldsIn narrow s → columns ≡ columnsOf x
-    → firstFailing (unaryChecks x) ≡ 0 → Limited columns
-unary-columns s h head width e =
-    let passes : firstFailing (unaryChecks (fieldsIn narrow s)) ≡ 0 = rw head at e in
-    rw (width, head) (columns-limited s h (all-pass (unaryChecks (fieldsIn narrow s)) (unary-numbered (fieldsIn narrow s)) passes .1 .0))
+    (F : Form) (s : List ℕ) → fieldsFail F s ≡ false → {x : Fields} {columns : ℕ} → x ≡ fieldsIn F s → columns ≡ columnsOf x
+    → firstFailing (unaryChecks x) ≡ 0 → Limited F columns
+unary-columns F s h head width e =
+    let passes : firstFailing (unaryChecks (fieldsIn F s)) ≡ 0 = rw head at e in
+    rw (width, head) (columns-limited F s h (all-pass (unaryChecks (fieldsIn F s)) (unary-numbered (fieldsIn F s)) passes .1 .0))
 
-module _ (left right : List ℕ) where
+module _ (F : Form) (left right : List ℕ) where
   pub pair-columns :
-      fieldsFail narrow left ≡ false → fieldsFail narrow right ≡ false → firstFailing (pairChecks (decode narrow left) (decode narrow right)) ≡ 0
-      → {x y : Fields} {columns : ℕ} → x ≡ fieldsIn narrow left → y ≡ fieldsIn narrow right → columns ≡ widest x y → Limited columns
+      fieldsFail F left ≡ false → fieldsFail F right ≡ false → firstFailing (pairChecks (decode F left) (decode F right)) ≡ 0
+      → {x y : Fields} {columns : ℕ} → x ≡ fieldsIn F left → y ≡ fieldsIn F right → columns ≡ widest x y → Limited F columns
   unfolding decode
   pair-columns h k e lh rh width =
-      let l = decode narrow left in
-      let r = decode narrow right in
+      let l = decode F left in
+      let r = decode F right in
       let p = all-pass (pairChecks l r) (pair-numbered l r) e .1 .1 .1 .1 .1 .1 .1 .0 in
       let q = or-no (columnsAbsent (l .fields)) (columnsAbsent (r .fields)) p in
-      let a = columns-limited left h (q .0) in
-      let b = columns-limited right k (q .1) in
+      let a = columns-limited F left h (q .0) in
+      let b = columns-limited F right k (q .1) in
       rw (width, lh, rh) (omega arith, omega arith)
 
-  module _ (c : Component) (e : firstFailing (copyChecks c (decode narrow left) (decode narrow right)) ≡ 0) where
-    copy-passes : Passing (boundChecks c (decode narrow left) (decode narrow right)) × Passing (check 11 (columnsAbsent (fieldsIn narrow left)) ∷ [])
+  module _ (c : Component) (e : firstFailing (copyChecks c (decode F left) (decode F right)) ≡ 0) where
+    copy-passes : Passing (boundChecks c (decode F left) (decode F right)) × Passing (check 11 (columnsAbsent (fieldsIn F left)) ∷ [])
     unfolding decode
     copy-passes =
-        let l = decode narrow left in
-        let r = decode narrow right in
-        pass-parts (boundChecks c l r) (check 11 (columnsAbsent (fieldsIn narrow left)) ∷ [])
+        let l = decode F left in
+        let r = decode F right in
+        pass-parts (boundChecks c l r) (check 11 (columnsAbsent (fieldsIn F left)) ∷ [])
         (all-pass (copyChecks c l r) (copy-numbered l r c) e .1 .1 .1 .1)
 
-    pub copy-columns : fieldsFail narrow left ≡ false → {x : Fields} {columns : ℕ} → x ≡ fieldsIn narrow left → columns ≡ columnsOf x → Limited columns
-    copy-columns h head width = rw (width, head) (columns-limited left h (copy-passes .1 .0))
+    pub copy-columns : fieldsFail F left ≡ false → {x : Fields} {columns : ℕ} → x ≡ fieldsIn F left → columns ≡ columnsOf x → Limited F columns
+    copy-columns h head width = rw (width, head) (columns-limited F left h (copy-passes .1 .0))
 
 -- ---- 15 of Modulo and Int Power
 
 -- `lower_int` gives a list only of a whole range
-whole-is-range : (s : List ℕ) → wholeLowersPresent (natureIn narrow s) ≡ true → isRangeNature (byteAt narrow natureAt s) ≡ true
+whole-is-range : (F : Form) (s : List ℕ) → wholeLowersPresent (natureIn F s) ≡ true → isRangeNature (byteAt F natureAt s) ≡ true
 unfolding natureIn wholeLowersPresent
-whole-is-range s e = let k = byteAt narrow natureAt s in go (eqb k 1) (eqb k 2) (eqb k 3) (eqb k 4) (eqb k 5) (wholeRange (entries narrow s asWhole)) refl e
+whole-is-range F s e = let k = byteAt F natureAt s in go (eqb k 1) (eqb k 2) (eqb k 3) (eqb k 4) (eqb k 5) (wholeRange (entries F s asWhole)) refl e
   where
-    go : (a b c d f : Bool) (whole : Nature) → eqb (byteAt narrow natureAt s) 1 ≡ a
+    go : (a b c d f : Bool) (whole : Nature) → eqb (byteAt F natureAt s) 1 ≡ a
         → wholeLowersPresent
         (cond a whole
-        (cond b (floatRange (entries narrow s asFloat)) (cond c (wholeLists (lists narrow s asWhole)) (cond d (boolLists (lists narrow s asBits)) (cond f (floatLists (lists narrow s asBits)) absent)))))
+        (cond b (floatRange (entries F s asFloat)) (cond c (wholeLists (lists F s asWhole)) (cond d (boolLists (lists F s asBits)) (cond f (floatLists (lists F s asBits)) absent)))))
         ≡ true
-        → isRangeNature (byteAt narrow natureAt s) ≡ true
+        → isRangeNature (byteAt F natureAt s) ≡ true
     go true b c d f whole h e = rw h
     go false true c d f whole h e = absurd (subst T (sym e) tt)
     go false false true d f whole h e = absurd (subst T (sym e) tt)
@@ -147,13 +153,13 @@ bounds-int l r C.Power p = whole-types (l .fields .dataType) (r .fields .dataTyp
 bounds-int l r C.Negative p = inl refl
 
 pub reached :
-    (left right : List ℕ) (c : Component) {x : Fields} → x ≡ fieldsIn narrow left
-    → firstFailing (copyChecks c (decode narrow left) (decode narrow right)) ≡ 0
-    → Reached c (x .dataType) right
+    (F : Form) (left right : List ℕ) (c : Component) {x : Fields} → x ≡ fieldsIn F left
+    → firstFailing (copyChecks c (decode F left) (decode F right)) ≡ 0
+    → Reached F c (x .dataType) right
 unfolding decode
-reached left right c h e =
+reached F left right c h e =
     rw h
     (⊎-elim
     (λ x. inl x)
-    (λ x. inr (whole-is-range right x))
-    (bounds-int (decode narrow left) (decode narrow right) c (copy-passes left right c e .0)))
+    (λ x. inr (whole-is-range F right x))
+    (bounds-int (decode F left) (decode F right) c (copy-passes F left right c e .0)))

@@ -14,11 +14,11 @@ use lib.Dec.{T, eqb, leb}
 use borrow.Author.Tests.{leb-true, eqb-true}
 use Rattle.numbers.specs.Result.{ok, refused}
 use Rattle.numbers.specs.Kind.{Span, whole, float}
-use Rattle.base.specs.Form.{narrow, byteAt, natureAt, typeAt, nullityAt, releasableAt, notEmptyAt, orderedAt, reservedAt, reservedCount, lastNature, lastType, isRangeNature, listCount}
+use Rattle.base.specs.Form.{Form, byteAt, natureAt, typeAt, nullityAt, releasableAt, notEmptyAt, orderedAt, reservedAt, reservedCount, lastNature, lastType, isRangeNature, listCount}
 use Rattle.base.specs.Sheet.{Nature, absent, wholeRange, floatRange, wholeLists, boolLists, floatLists}
 use Rattle.base.specs.Decode.{asWhole, asFloat, asBits, natureIn, entries}
 use Rattle.base.specs.Encode.{natureNumber, entryCount}
-use Rattle.base.specs.Checks.{bytesPermitted, flagPermitted, holdsFrom}
+use Rattle.base.specs.Checks.{bytesPermitted, flagPermitted, gapPermitted, holdsFrom}
 use Rattle.base.specs.Components.{familyOf}
 use Rattle.base.specs.declared.Component.{Component}
 use Rattle.base.specs.declared.Component.the-variants as C
@@ -45,49 +45,50 @@ range-whole k y e = go (eqb k 1) refl (rw e at y)
 
 -- ---- a sheet's nature
 
-module _ (s : List ℕ) where
-  nature-first : bytesPermitted narrow s ≡ true → byteAt narrow natureAt s ≤ 5
+module _ (F : Form) (s : List ℕ) where
+  nature-first : bytesPermitted F s ≡ true → byteAt F natureAt s ≤ 5
   unfolding bytesPermitted
   nature-first e =
-      let n = leb (byteAt narrow natureAt s) lastNature in
-      let t = leb (byteAt narrow typeAt s) lastType in
-      let u = flagPermitted narrow s nullityAt in
-      let v = flagPermitted narrow s releasableAt in
-      let w = flagPermitted narrow s notEmptyAt in
-      let o = flagPermitted narrow s orderedAt in
-      let z = holdsFrom reservedCount reservedAt (λ k. eqb (byteAt narrow k s) 0) in
-      let five = and-both (n && t && u && v && w && o) z e .0 in
+      let n = leb (byteAt F natureAt s) lastNature in
+      let t = leb (byteAt F typeAt s) lastType in
+      let u = flagPermitted F s nullityAt in
+      let v = flagPermitted F s releasableAt in
+      let w = flagPermitted F s notEmptyAt in
+      let o = flagPermitted F s orderedAt in
+      let z = holdsFrom reservedCount reservedAt (λ k. eqb (byteAt F k s) 0) in
+      let six = and-both (n && t && u && v && w && o && z) (gapPermitted F s) e .0 in
+      let five = and-both (n && t && u && v && w && o) z six .0 in
       let four = and-both (n && t && u && v && w) o five .0 in
       let three = and-both (n && t && u && v) w four .0 in
       let two = and-both (n && t && u) v three .0 in
-      leb-true (byteAt narrow natureAt s) 5 (and-both n t (and-both (n && t) u two .0) .0)
+      leb-true (byteAt F natureAt s) 5 (and-both n t (and-both (n && t) u two .0) .0)
 
-  pub nature-within : Read s → byteAt narrow natureAt s ≤ 5
-  nature-within r = nature-first (permitted narrow s (r .fields) .bytes)
+  pub nature-within : Read F s → byteAt F natureAt s ≤ 5
+  nature-within r = nature-first (permitted F s (r .fields) .bytes)
 
-  numbered : (k : ℕ) → k ≤ 5 → byteAt narrow natureAt s ≡ k → natureNumber (natureIn narrow s) ≡ k
-  numbered zero h e = ap natureNumber (nature-absent narrow s e)
-  numbered (suc zero) h e = ap natureNumber (nature-whole-range narrow s e)
-  numbered (suc (suc zero)) h e = ap natureNumber (nature-float-range narrow s e)
-  numbered (suc (suc (suc zero))) h e = ap natureNumber (nature-whole-lists narrow s e)
-  numbered (suc (suc (suc (suc zero)))) h e = ap natureNumber (nature-bool-lists narrow s e)
-  numbered (suc (suc (suc (suc (suc zero))))) h e = ap natureNumber (nature-float-lists narrow s e)
+  numbered : (k : ℕ) → k ≤ 5 → byteAt F natureAt s ≡ k → natureNumber (natureIn F s) ≡ k
+  numbered zero h e = ap natureNumber (nature-absent F s e)
+  numbered (suc zero) h e = ap natureNumber (nature-whole-range F s e)
+  numbered (suc (suc zero)) h e = ap natureNumber (nature-float-range F s e)
+  numbered (suc (suc (suc zero))) h e = ap natureNumber (nature-whole-lists F s e)
+  numbered (suc (suc (suc (suc zero)))) h e = ap natureNumber (nature-bool-lists F s e)
+  numbered (suc (suc (suc (suc (suc zero))))) h e = ap natureNumber (nature-float-lists F s e)
   numbered (suc (suc (suc (suc (suc (suc k)))))) h e = absurd (omega arith)
 
-  pub number-of : Read s → natureNumber (natureIn narrow s) ≡ byteAt narrow natureAt s
-  number-of r = numbered (byteAt narrow natureAt s) (nature-within r) refl
+  pub number-of : Read F s → natureNumber (natureIn F s) ≡ byteAt F natureAt s
+  number-of r = numbered (byteAt F natureAt s) (nature-within r) refl
 
-  entered : (k : ℕ) → k ≤ 5 → eqb k 0 ≡ false → isRangeNature k ≡ false → byteAt narrow natureAt s ≡ k → entryCount (natureIn narrow s) ≡ listCount narrow s
+  entered : (k : ℕ) → k ≤ 5 → eqb k 0 ≡ false → isRangeNature k ≡ false → byteAt F natureAt s ≡ k → entryCount (natureIn F s) ≡ listCount F s
   entered zero h p n e = absurd (yes-no p)
   entered (suc zero) h p n e = absurd (yes-no n)
   entered (suc (suc zero)) h p n e = absurd (yes-no n)
-  entered (suc (suc (suc zero))) h p n e = ap entryCount (nature-whole-lists narrow s e) ∙ lists-length narrow s asWhole
-  entered (suc (suc (suc (suc zero)))) h p n e = ap entryCount (nature-bool-lists narrow s e) ∙ lists-length narrow s asBits
-  entered (suc (suc (suc (suc (suc zero))))) h p n e = ap entryCount (nature-float-lists narrow s e) ∙ lists-length narrow s asBits
+  entered (suc (suc (suc zero))) h p n e = ap entryCount (nature-whole-lists F s e) ∙ lists-length F s asWhole
+  entered (suc (suc (suc (suc zero)))) h p n e = ap entryCount (nature-bool-lists F s e) ∙ lists-length F s asBits
+  entered (suc (suc (suc (suc (suc zero))))) h p n e = ap entryCount (nature-float-lists F s e) ∙ lists-length F s asBits
   entered (suc (suc (suc (suc (suc (suc k)))))) h p n e = absurd (omega arith)
 
-  pub count-of : Lists s → entryCount (natureIn narrow s) ≡ listCount narrow s
-  count-of l = entered (byteAt narrow natureAt s) (nature-within (l .read)) (l .present) (l .no-range) refl
+  pub count-of : Lists F s → entryCount (natureIn F s) ≡ listCount F s
+  count-of l = entered (byteAt F natureAt s) (nature-within (l .read)) (l .present) (l .no-range) refl
 
 -- ---- by numbers alone
 
@@ -212,26 +213,26 @@ module _ (limit : ℕ) (c : Component) (type columns : ℕ) where
   unequal-ranges (floatLists ls) r x y d = absurd (yes-no (sym x))
 
   -- two ranges of one kind, of two sheets
-  module _ (left right : List ℕ) where
-    both-whole : byteAt narrow natureAt left ≡ 1 → byteAt narrow natureAt right ≡ 1
-        → binaryNature limit c type columns (natureIn narrow left) (natureIn narrow right) ≡ rangeNature narrow false c type columns left right
+  module _ (F : Form) (left right : List ℕ) where
+    both-whole : byteAt F natureAt left ≡ 1 → byteAt F natureAt right ≡ 1
+        → binaryNature limit c type columns (natureIn F left) (natureIn F right) ≡ rangeNature F false c type columns left right
     unfolding binaryNature wholeRangeWith rangeNature
-    both-whole e h = rw (nature-whole-range narrow left e, nature-whole-range narrow right h)
+    both-whole e h = rw (nature-whole-range F left e, nature-whole-range F right h)
 
-    both-float : byteAt narrow natureAt left ≡ 2 → byteAt narrow natureAt right ≡ 2
-        → binaryNature limit c type columns (natureIn narrow left) (natureIn narrow right) ≡ rangeNature narrow true c type columns left right
+    both-float : byteAt F natureAt left ≡ 2 → byteAt F natureAt right ≡ 2
+        → binaryNature limit c type columns (natureIn F left) (natureIn F right) ≡ rangeNature F true c type columns left right
     unfolding binaryNature floatRangeWith rangeNature
-    both-float e h = rw (nature-float-range narrow left e, nature-float-range narrow right h)
+    both-float e h = rw (nature-float-range F left e, nature-float-range F right h)
 
-    pub both-ranges : isRangeNature (byteAt narrow natureAt left) ≡ true → byteAt narrow natureAt left ≡ byteAt narrow natureAt right
-        → binaryNature limit c type columns (natureIn narrow left) (natureIn narrow right)
-        ≡ rangeNature narrow (eqb (byteAt narrow natureAt left) 2) c type columns left right
+    pub both-ranges : isRangeNature (byteAt F natureAt left) ≡ true → byteAt F natureAt left ≡ byteAt F natureAt right
+        → binaryNature limit c type columns (natureIn F left) (natureIn F right)
+        ≡ rangeNature F (eqb (byteAt F natureAt left) 2) c type columns left right
     both-ranges y same = go (eqb k 2) refl
       where
         k : ℕ
-        k = byteAt narrow natureAt left
+        k = byteAt F natureAt left
 
-        go : (b : Bool) → eqb k 2 ≡ b → binaryNature limit c type columns (natureIn narrow left) (natureIn narrow right) ≡ rangeNature narrow b c type columns left right
+        go : (b : Bool) → eqb k 2 ≡ b → binaryNature limit c type columns (natureIn F left) (natureIn F right) ≡ rangeNature F b c type columns left right
         go true e = let two = eqb-true k 2 e in both-float two (sym same ∙ two)
         go false e = let one = range-whole k y e in both-whole one (sym same ∙ one)
 
@@ -263,22 +264,22 @@ ruled-whole C.Log type h = absurd (yes-no (sym h))
 ruled-whole C.Power type h = absurd (yes-no (sym h))
 ruled-whole C.Negative type h = refl
 
-module _ (limit : ℕ) (c : Component) (type columns : ℕ) (has : hasRule (familyOf c) ≡ true) (s : List ℕ) where
-  alone-whole : byteAt narrow natureAt s ≡ 1 → unaryNature limit c type columns (natureIn narrow s) ≡ rangeNature narrow false c type columns s s
+module _ (limit : ℕ) (c : Component) (type columns : ℕ) (has : hasRule (familyOf c) ≡ true) (F : Form) (s : List ℕ) where
+  alone-whole : byteAt F natureAt s ≡ 1 → unaryNature limit c type columns (natureIn F s) ≡ rangeNature F false c type columns s s
   unfolding unaryNature rangeNature
-  alone-whole e = rw (nature-whole-range narrow s e, ruled-whole c type has, alone-is (endRule whole c) columns (entries narrow s asWhole))
+  alone-whole e = rw (nature-whole-range F s e, ruled-whole c type has, alone-is (endRule whole c) columns (entries F s asWhole))
 
-  alone-float : byteAt narrow natureAt s ≡ 2 → unaryNature limit c type columns (natureIn narrow s) ≡ rangeNature narrow true c type columns s s
+  alone-float : byteAt F natureAt s ≡ 2 → unaryNature limit c type columns (natureIn F s) ≡ rangeNature F true c type columns s s
   unfolding unaryNature rangeNature
-  alone-float e = rw (nature-float-range narrow s e, alone-is (endRule float c) columns (entries narrow s asFloat))
+  alone-float e = rw (nature-float-range F s e, alone-is (endRule float c) columns (entries F s asFloat))
 
-  pub alone-range : isRangeNature (byteAt narrow natureAt s) ≡ true
-      → unaryNature limit c type columns (natureIn narrow s) ≡ rangeNature narrow (eqb (byteAt narrow natureAt s) 2) c type columns s s
+  pub alone-range : isRangeNature (byteAt F natureAt s) ≡ true
+      → unaryNature limit c type columns (natureIn F s) ≡ rangeNature F (eqb (byteAt F natureAt s) 2) c type columns s s
   alone-range y = go (eqb k 2) refl
     where
       k : ℕ
-      k = byteAt narrow natureAt s
+      k = byteAt F natureAt s
 
-      go : (b : Bool) → eqb k 2 ≡ b → unaryNature limit c type columns (natureIn narrow s) ≡ rangeNature narrow b c type columns s s
+      go : (b : Bool) → eqb k 2 ≡ b → unaryNature limit c type columns (natureIn F s) ≡ rangeNature F b c type columns s s
       go true e = alone-float (eqb-true k 2 e)
       go false e = alone-whole (range-whole k y e)

@@ -1,36 +1,64 @@
 -- What the code of the single step asks for, and what it answers.
 use mathlib.Core.Path.{_≡_}
-use mathlib.Core.Bool.{Bool, true, false}
+use mathlib.Core.Bool.{Bool, true, false, cond, _&&_}
 use mathlib.Core.List.{List}
 use mathlib.Core.Logic.{_⊎_}
-use Prim.Native.Nat.{ℕ, _≤_, _<_}
+use Prim.Native.Nat.{ℕ, _+_, _*_, _≤_, _<_}
+use lib.IntN.{ℤ}
 use lib.ListN.{length, take}
-use lib.Dec.{eqb}
+use lib.Dec.{eqb, leb}
 use Rattle.bytes.specs.declared.Put.{Put}
 use Rattle.bytes.specs.declared.Put.the-variants as U
 use Rattle.numbers.specs.Result.{Result, ok, refused}
-use Rattle.base.specs.Form.{narrow, byteAt, natureAt, isRangeNature, intType}
+use Rattle.base.specs.Form.{Form, byteAt, natureAt, absentNature, wholeListsNature, isRangeNature, intType, entriesAt}
 use Rattle.base.specs.Checks.{sizesFail, fieldsFail}
-use Rattle.base.specs.Components.{familyOf}
+use Rattle.base.specs.Components.{familyOf, isUnary}
 use Rattle.base.specs.declared.Component.{Component}
 use Rattle.base.specs.declared.Family.{Family}
 use Rattle.base.specs.declared.Family.the-variants as Fam
-use Rattle.writer.specs.Written.{firstRoom, secondRoom}
+use Rattle.writer.specs.Written.{endsRoom, listsRoom}
 use Rattle.writer.specs.declared.Derived.{Derived}
 use Rattle.writer.specs.declared.Derived.the-variants as D
+use Rattle.categories.specs.Answers.{Stores, Arrays}
 use Rattle.transforms.specs.Single.{Outcome, outcome}
 
 -- a sheet that passed 3 and 4
-pub record Read (s : List ℕ) : Type 0 where
-  pub sizes : sizesFail narrow s ≡ false
-  pub fields : fieldsFail narrow s ≡ false
+pub record Read (F : Form) (s : List ℕ) : Type 0 where
+  pub sizes : sizesFail F s ≡ false
+  pub fields : fieldsFail F s ≡ false
 
 -- what deriving a nature asks of the output columns and of the two buffers
-pub record Ready (columns : ℕ) (first second : List ℕ) : Type 0 where
+pub record Ready (F : Form) (columns : ℕ) (first second : List ℕ) : Type 0 where
   pub some-column : 0 < columns
-  pub within : columns ≤ narrow .columnLimit
-  pub first-room : firstRoom ≤ length first
-  pub second-room : secondRoom ≤ length second
+  pub within : columns ≤ F .columnLimit
+  pub first-room : 9 * F .listLimit ≤ length first
+  pub second-room : 9 * F .listLimit ≤ length second
+
+-- a sheet of whole categories, which alone are mapped or combined
+abbrev pub holdsLists : Form → List ℕ → Bool
+holdsLists F s = leb (F .arraysAt) (length s) && eqb (byteAt F natureAt s) wholeListsNature
+
+-- both operands are; of Abs and Negative the one operand is both
+abbrev pub joinsLists : Form → List ℕ → List ℕ → Bool
+joinsLists F left right = holdsLists F left && holdsLists F right
+
+abbrev pub secondOf : Family → List ℕ → List ℕ → List ℕ
+secondOf family left right = cond (isUnary family) left right
+
+-- the bytes that the derived nature's arrays have at most
+abbrev pub arraysRoom : Form → List ℕ → List ℕ → ℕ
+arraysRoom F left right = cond (joinsLists F left right) (listsRoom F) (endsRoom F)
+
+-- the category stores, and room for as many categories as a sheet may hold: lent where they are used
+pub record Lent (F : Form) (left right : List ℕ) (us bs store : List ℤ) (hints first second : List ℕ) : Type 0 where
+  pub stores : joinsLists F left right ≡ true → Stores F us bs store hints
+  pub arrays : joinsLists F left right ≡ true → Arrays F first second
+
+-- what every step is lent: two buffers that hold the ends of a range, and a scratch for the sheet
+pub record Buffers (F : Form) (left right first second out : List ℕ) : Type 0 where
+  pub first-room : 9 * F .listLimit ≤ length first
+  pub second-room : 9 * F .listLimit ≤ length second
+  pub sheet-room : entriesAt F (F .groupLimit) + arraysRoom F left right ≤ length out
 
 -- Modulo, Log and Power of type Int: the rules for categories that Modulo and Power have are on this type
 abbrev pub isIntCopy : Family → ℕ → Bool
@@ -39,8 +67,8 @@ isIntCopy Fam.Pair type = false
 isIntCopy Fam.Copy type = eqb type intType
 
 -- 15 has kept category pairs from these
-abbrev pub Reached : Component → ℕ → List ℕ → Type 0
-Reached c type right = (isIntCopy (familyOf c) type ≡ false) ⊎ (isRangeNature (byteAt narrow natureAt right) ≡ true)
+abbrev pub Reached : Form → Component → ℕ → List ℕ → Type 0
+Reached F c type right = (isIntCopy (familyOf c) type ≡ false) ⊎ (isRangeNature (byteAt F natureAt right) ≡ true)
 
 -- the bytes that a step left at the start of a buffer, or its refusal
 abbrev pub stepIn : Put → List ℕ → Result (List ℕ)
@@ -58,10 +86,10 @@ given (U.At n) bytes = outcome 0 n bytes
 given (U.Refused k) bytes = outcome k 0 bytes
 
 -- categories: neither absent nor a range
-pub record Lists (s : List ℕ) : Type 0 where
-  pub read : Read s
-  pub present : eqb (byteAt narrow natureAt s) 0 ≡ false
-  pub no-range : isRangeNature (byteAt narrow natureAt s) ≡ false
+pub record Lists (F : Form) (s : List ℕ) : Type 0 where
+  pub read : Read F s
+  pub present : eqb (byteAt F natureAt s) absentNature ≡ false
+  pub no-range : isRangeNature (byteAt F natureAt s) ≡ false
 
 -- there is code for the family's rules for whole categories
 abbrev pub hasRule : Family → Bool

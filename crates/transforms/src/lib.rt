@@ -3,6 +3,7 @@ use base::Component;
 use base::Family;
 use base::Head;
 use base::form;
+use base::form::Form;
 use base::refusals;
 use bytes::Put;
 use writer::Derived;
@@ -13,7 +14,7 @@ ghost use Prim.Native.Nat.{_≤_};
 ghost use lib.IntN.{pos};
 ghost use lib.ListN.{length, take};
 ghost use Rattle.numbers.specs.Result.{ok, andThen};
-ghost use Rattle.base.specs.Form.{narrow, longest};
+ghost use Rattle.base.specs.Form.{formOf};
 ghost use Rattle.base.specs.Decode.{decode, groupsIn};
 ghost use Rattle.base.specs.Checks.{read};
 ghost use Rattle.base.specs.Code.{headFields, codeOf};
@@ -25,14 +26,32 @@ ghost use Rattle.base.specs.declared.Family.the-variants as Fam;
 ghost use Rattle.shape.specs.Fields.{withNode};
 ghost use Rattle.transforms.specs.Derive.{deriveUnary, derivePair, deriveCopy};
 ghost use Rattle.transforms.specs.Single.{step, delivery};
-ghost use Rattle.transforms.specs.Code.{Read, stepIn, Held, given, refusalOf};
+ghost use Rattle.transforms.specs.Code.{Read, holdsLists, joinsLists, secondOf, Buffers, Lent, stepIn, Held, given, refusalOf};
 
 mod natures;
 
-// How long the two buffers of a derived nature are.
-const FIRST_ROOM: usize = form::END_WIDTH * form::LIST_LIMIT;
+// Whether a sheet has whole categories, which alone are mapped or combined.
+pub fn holds_lists(f: Form, s: &[u8]) -> bool
+    ensures { λ r. ⌜ r ≡ holdsLists (formOf f) (now (s .entry)) ⌝ }
+{
+    if s.len() < f.arrays_at() {
+        return false;
+    }
+    base::nature_of(f, s) == form::WHOLE_LISTS
+}
 
-const SECOND_ROOM: usize = form::VALUE_WIDTH * form::CATEGORY_LIMIT;
+// Whether a step maps or combines categories: only then does it use the stores that it is lent.
+pub fn joins_lists(f: Form, c: Component, left: &[u8], right: &[u8]) -> bool
+    ensures { λ r. ⌜ r ≡ joinsLists (formOf f) (now (left .entry)) (secondOf (familyOf c) (now (left .entry)) (now (right .entry))) ⌝ }
+{
+    if !holds_lists(f, left) {
+        return false;
+    }
+    if c.family().is_unary() {
+        return true;
+    }
+    holds_lists(f, right)
+}
 
 // The refusal that a derived nature is.
 fn refusal(derived: Derived) -> Put
@@ -45,35 +64,49 @@ fn refusal(derived: Derived) -> Put
 }
 
 // Abs and Negative copy their operand but for its nature.
-fn step_unary(c: Component, left: &[u8], out: &mut [u8]) -> Put
-    requires { ⌜ Read (now left) × (familyOf c ≡ Fam.Unary) × (longest narrow ≤ length (now out)) ⌝ }
-    ensures { λ r. ⌜ (stepIn r (now (out .exit)) ≡ andThen (deriveUnary (narrow .categoryLimit) c (decode narrow (now (left .entry)))) (λ s. ok (encode narrow s))) × Held r (length (now (out .entry))) ⌝ }
+fn step_unary(
+    f: Form,
+    c: Component,
+    left: &[u8],
+    first: &mut [u8],
+    second: &mut [u8],
+    us: &mut [i64],
+    store: &mut [i64],
+    hints: &mut [u8],
+    out: &mut [u8],
+) -> Put
+    requires { ⌜ Read (formOf f) (now left) × (familyOf c ≡ Fam.Unary) ⌝ }
+    requires { ⌜ Buffers (formOf f) (now left) (now left) (now first) (now second) (now out) × Lent (formOf f) (now left) (now left) (now us) (now us) (now store) (now hints) (now first) (now second) ⌝ }
+    ensures { λ r. ⌜ (stepIn r (now (out .exit)) ≡ andThen (deriveUnary (formOf f .categoryLimit) c (decode (formOf f) (now (left .entry)))) (λ s. ok (encode (formOf f) s))) × Held r (length (now (out .entry))) ⌝ }
 {
-    let h = base::read_head(left);
+    let h = base::read_head(f, left);
     let k = shape::codes::unary_code(h);
     if k != 0 {
         return Put::Refused(k);
     }
     let columns = shape::columns_of(h) as usize;
-    let mut first = [0u8; FIRST_ROOM];
-    let mut second = [0u8; SECOND_ROOM];
     let derived = natures::propagate_unary_nature(
+        f,
         c,
         h.data_type,
         columns,
         left,
-        &mut first,
-        &mut second,
+        us,
+        store,
+        hints,
+        first,
+        second,
     );
     match derived {
         Derived::Refused(n) => Put::Refused(n),
         Derived::Nature(p) => Put::At(writer::put_sheet(
+            f,
             out,
             p,
-            &first,
-            &second,
+            first,
+            second,
             h,
-            base::node_at(left),
+            base::node_at(f, left),
             left,
         )),
     }
@@ -81,6 +114,7 @@ fn step_unary(c: Component, left: &[u8], out: &mut [u8]) -> Put
 
 // The groups are right's where left is releasable, else left's.
 fn put_pair(
+    f: Form,
     out: &mut [u8],
     p: Parts,
     first: &[u8],
@@ -91,48 +125,66 @@ fn put_pair(
     right: &[u8],
     switch: bool,
 ) -> usize
-    requires { ⌜ Room p (now first) (now second) (now left) (now out) × Room p (now first) (now second) (now right) (now out) ⌝ }
-    ensures { λ r. ⌜ (r ≤ length (now (out .entry))) × (take r (now (out .exit)) ≡ sheetFrom narrow (headFields h) node (cond switch (groupsIn narrow (now (right .entry))) (groupsIn narrow (now (left .entry)))) (partsIn p (now (first .entry)) (now (second .entry)))) ⌝ }
+    requires { ⌜ Room (formOf f) p (now first) (now second) (now left) (now out) × Room (formOf f) p (now first) (now second) (now right) (now out) ⌝ }
+    ensures { λ r. ⌜ (r ≤ length (now (out .entry))) × (take r (now (out .exit)) ≡ sheetFrom (formOf f) (headFields h) node (cond switch (groupsIn (formOf f) (now (right .entry))) (groupsIn (formOf f) (now (left .entry)))) (partsIn p (now (first .entry)) (now (second .entry)))) ⌝ }
 {
     if switch {
-        return writer::put_sheet(out, p, first, second, h, node, right);
+        return writer::put_sheet(f, out, p, first, second, h, node, right);
     }
-    writer::put_sheet(out, p, first, second, h, node, left)
+    writer::put_sheet(f, out, p, first, second, h, node, left)
 }
 
 // Add, Subtract, Multiply and Divide.
-fn step_pair(c: Component, node: u32, left: &[u8], right: &[u8], out: &mut [u8]) -> Put
-    requires { ⌜ Read (now left) × Read (now right) × (familyOf c ≡ Fam.Pair) × (longest narrow ≤ length (now out)) ⌝ }
-    ensures { λ r. ⌜ (stepIn r (now (out .exit)) ≡ andThen (derivePair (narrow .categoryLimit) c (decode narrow (now (left .entry))) (decode narrow (now (right .entry)))) (λ s. ok (encode narrow (withNode (pos node) s)))) × Held r (length (now (out .entry))) ⌝ }
+fn step_pair(
+    f: Form,
+    c: Component,
+    node: u32,
+    left: &[u8],
+    right: &[u8],
+    first: &mut [u8],
+    second: &mut [u8],
+    us: &mut [i64],
+    bs: &mut [i64],
+    store: &mut [i64],
+    hints: &mut [u8],
+    out: &mut [u8],
+) -> Put
+    requires { ⌜ Read (formOf f) (now left) × Read (formOf f) (now right) × (familyOf c ≡ Fam.Pair) ⌝ }
+    requires { ⌜ Buffers (formOf f) (now left) (now right) (now first) (now second) (now out) × Lent (formOf f) (now left) (now right) (now us) (now bs) (now store) (now hints) (now first) (now second) ⌝ }
+    ensures { λ r. ⌜ (stepIn r (now (out .exit)) ≡ andThen (derivePair (formOf f .categoryLimit) c (decode (formOf f) (now (left .entry))) (decode (formOf f) (now (right .entry)))) (λ s. ok (encode (formOf f) (withNode (pos node) s)))) × Held r (length (now (out .entry))) ⌝ }
 {
-    let l = base::read_head(left);
-    let r = base::read_head(right);
-    let k = shape::codes::pair_code(left, right, l, r);
+    let l = base::read_head(f, left);
+    let r = base::read_head(f, right);
+    let k = shape::codes::pair_code(f, left, right, l, r);
     if k != 0 {
         return Put::Refused(k);
     }
     let columns = shape::widest(l, r) as usize;
-    let mut first = [0u8; FIRST_ROOM];
-    let mut second = [0u8; SECOND_ROOM];
     let derived = natures::propagate_binary_nature(
+        f,
         c,
         l.data_type,
         columns,
         left,
         right,
-        &mut first,
-        &mut second,
+        us,
+        bs,
+        store,
+        hints,
+        first,
+        second,
     );
     let Derived::Nature(p) = derived else {
         return refusal(derived);
     };
-    let more = shape::zero::adds_nullity(c, right);
+    let more = shape::zero::adds_nullity(f, c, right);
     let h = shape::pair_head(more, l, r);
     Put::At(put_pair(
+        f,
         out,
         p,
-        &first,
-        &second,
+        first,
+        second,
         h,
         node as i64,
         left,
@@ -142,68 +194,110 @@ fn step_pair(c: Component, node: u32, left: &[u8], right: &[u8], out: &mut [u8])
 }
 
 // Modulo, Log and Power copy left but for a few fields.
-fn step_copy(c: Component, left: &[u8], right: &[u8], out: &mut [u8]) -> Put
-    requires { ⌜ Read (now left) × Read (now right) × (familyOf c ≡ Fam.Copy) × (longest narrow ≤ length (now out)) ⌝ }
-    ensures { λ r. ⌜ (stepIn r (now (out .exit)) ≡ andThen (deriveCopy (narrow .categoryLimit) c (decode narrow (now (left .entry))) (decode narrow (now (right .entry)))) (λ s. ok (encode narrow s))) × Held r (length (now (out .entry))) ⌝ }
+fn step_copy(
+    f: Form,
+    c: Component,
+    left: &[u8],
+    right: &[u8],
+    first: &mut [u8],
+    second: &mut [u8],
+    us: &mut [i64],
+    bs: &mut [i64],
+    store: &mut [i64],
+    hints: &mut [u8],
+    out: &mut [u8],
+) -> Put
+    requires { ⌜ Read (formOf f) (now left) × Read (formOf f) (now right) × (familyOf c ≡ Fam.Copy) ⌝ }
+    requires { ⌜ Buffers (formOf f) (now left) (now right) (now first) (now second) (now out) × Lent (formOf f) (now left) (now right) (now us) (now bs) (now store) (now hints) (now first) (now second) ⌝ }
+    ensures { λ r. ⌜ (stepIn r (now (out .exit)) ≡ andThen (deriveCopy (formOf f .categoryLimit) c (decode (formOf f) (now (left .entry))) (decode (formOf f) (now (right .entry)))) (λ s. ok (encode (formOf f) s))) × Held r (length (now (out .entry))) ⌝ }
 {
-    let l = base::read_head(left);
-    let r = base::read_head(right);
-    let k = shape::codes::copy_code(c, left, right, l, r);
+    let l = base::read_head(f, left);
+    let r = base::read_head(f, right);
+    let k = shape::codes::copy_code(f, c, left, right, l, r);
     if k != 0 {
         return Put::Refused(k);
     }
     let columns = shape::columns_of(l) as usize;
-    let mut first = [0u8; FIRST_ROOM];
-    let mut second = [0u8; SECOND_ROOM];
     let derived = natures::propagate_binary_nature(
+        f,
         c,
         l.data_type,
         columns,
         left,
         right,
-        &mut first,
-        &mut second,
+        us,
+        bs,
+        store,
+        hints,
+        first,
+        second,
     );
     let Derived::Nature(p) = derived else {
         return refusal(derived);
     };
-    let m = shape::codes::last_code(left, right, l, r);
+    let m = shape::codes::last_code(f, left, right, l, r);
     if m != 0 {
         return Put::Refused(m);
     }
     let h = shape::copy_head(l, r);
-    let node = base::node_at(left);
-    Put::At(put_pair(out, p, &first, &second, h, node, left, right, l.releasable))
+    let node = base::node_at(f, left);
+    Put::At(put_pair(f, out, p, first, second, h, node, left, right, l.releasable))
 }
 
 // 3 to 5 of the right sheet, where the family reads it.
-fn right_code(family: Family, right: &[u8]) -> u32
-    ensures { λ r. ⌜ r ≡ cond (isUnary family) 0 (codeOf (read narrow (now (right .entry)))) ⌝ }
+fn right_code(f: Form, family: Family, right: &[u8]) -> u32
+    ensures { λ r. ⌜ r ≡ cond (isUnary family) 0 (codeOf (read (formOf f) (now (right .entry)))) ⌝ }
 {
     if family.is_unary() {
         return 0;
     }
-    base::check_sheet(right)
+    base::check_sheet(f, right)
 }
 
 // The derived sheet at the start of a buffer that holds the longest, or the refusal.
-pub fn step(c: Component, node: u32, left: &[u8], right: &[u8], out: &mut [u8]) -> Put
-    requires { ⌜ longest narrow ≤ length (now out) ⌝ }
-    ensures { λ r. ⌜ (stepIn r (now (out .exit)) ≡ step narrow c node (now (left .entry)) (now (right .entry))) × Held r (length (now (out .entry))) ⌝ }
+pub fn step(
+    f: Form,
+    c: Component,
+    node: u32,
+    left: &[u8],
+    right: &[u8],
+    first: &mut [u8],
+    second: &mut [u8],
+    us: &mut [i64],
+    bs: &mut [i64],
+    store: &mut [i64],
+    hints: &mut [u8],
+    out: &mut [u8],
+) -> Put
+    requires { ⌜ Buffers (formOf f) (now left) (secondOf (familyOf c) (now left) (now right)) (now first) (now second) (now out) × Lent (formOf f) (now left) (secondOf (familyOf c) (now left) (now right)) (now us) (now bs) (now store) (now hints) (now first) (now second) ⌝ }
+    ensures { λ r. ⌜ (stepIn r (now (out .exit)) ≡ step (formOf f) c node (now (left .entry)) (now (right .entry))) × Held r (length (now (out .entry))) ⌝ }
 {
-    let k = base::check_sheet(left);
+    let k = base::check_sheet(f, left);
     if k != 0 {
         return Put::Refused(k);
     }
     let family = c.family();
-    let m = right_code(family, right);
+    let m = right_code(f, family, right);
     if m != 0 {
         return Put::Refused(m);
     }
     match family {
-        Family::Unary => step_unary(c, left, out),
-        Family::Pair => step_pair(c, node, left, right, out),
-        Family::Copy => step_copy(c, left, right, out),
+        Family::Unary => step_unary(f, c, left, first, second, us, store, hints, out),
+        Family::Pair => step_pair(
+            f,
+            c,
+            node,
+            left,
+            right,
+            first,
+            second,
+            us,
+            bs,
+            store,
+            hints,
+            out,
+        ),
+        Family::Copy => step_copy(f, c, left, right, first, second, us, bs, store, hints, out),
     }
 }
 

@@ -2,6 +2,7 @@
 use base::Component;
 use base::Family;
 use base::form;
+use base::form::Form;
 use base::refusals;
 use writer::Derived;
 use writer::Parts;
@@ -11,17 +12,17 @@ ghost use mathlib.Core.List.{List, [], _∷_};
 ghost use Prim.Native.Nat.{ℕ};
 ghost use lib.Dec.{eqb};
 ghost use Rattle.numbers.specs.Result.{ok, check, firstFailing};
-ghost use Rattle.base.specs.Form.{narrow, floatListsNature};
+ghost use Rattle.base.specs.Form.{formOf, floatListsNature};
 ghost use Rattle.base.specs.Sheet.{absent};
 ghost use Rattle.base.specs.Components.{familyOf};
 ghost use Rattle.base.specs.Decode.{natureIn};
 ghost use Rattle.writer.specs.Written.{inWriting, derivedIn, Within};
 ghost use Rattle.transforms.specs.Natures.{listsPair, listsAlone, unaryNature, binaryNature};
-ghost use Rattle.transforms.specs.Code.{Read, Ready, Reached, Lists, hasRule};
+ghost use Rattle.transforms.specs.Code.{Read, Ready, Reached, Lists, Lent, arraysRoom, hasRule};
 
 // An absent nature, which has no arrays.
-fn nothing_stated() -> Derived
-    ensures { λ r. ⌜ ((f s : List ℕ) → derivedIn r f s ≡ inWriting narrow (ok absent)) × Within r ⌝ }
+fn nothing_stated(f: Form) -> Derived
+    ensures { λ r. ⌜ ((room : ℕ) (a b : List ℕ) → (derivedIn r a b ≡ inWriting (formOf f) (ok absent)) × Within (formOf f) room a b r) ⌝ }
 {
     Derived::Nature(Parts {
         nature: form::ABSENT_NATURE,
@@ -59,25 +60,31 @@ fn has_rule(c: Component) -> bool
 
 // Two category operands: 19 to 22, then the product.
 fn propagate_binary_categorical_nature(
+    f: Form,
     c: Component,
     data_type: u8,
     columns: usize,
     left: &[u8],
     right: &[u8],
+    us: &mut [i64],
+    bs: &mut [i64],
+    store: &mut [i64],
+    hints: &mut [u8],
     first: &mut [u8],
     second: &mut [u8],
 ) -> Derived
-    requires { ⌜ Lists (now left) × Lists (now right) × Ready columns (now first) (now second) × Reached c data_type (now right) ⌝ }
-    ensures { λ r. ⌜ (derivedIn r (now (first .exit)) (now (second .exit)) ≡ inWriting narrow (listsPair (narrow .categoryLimit) c data_type columns (natureIn narrow (now (left .entry))) (natureIn narrow (now (right .entry))))) × Within r ⌝ }
+    requires { ⌜ Lists (formOf f) (now left) × Lists (formOf f) (now right) × Ready (formOf f) columns (now first) (now second) × Reached (formOf f) c data_type (now right) ⌝ }
+    requires { ⌜ Lent (formOf f) (now left) (now right) (now us) (now bs) (now store) (now hints) (now first) (now second) ⌝ }
+    ensures { λ r. ⌜ (derivedIn r (now (first .exit)) (now (second .exit)) ≡ inWriting (formOf f) (listsPair (formOf f .categoryLimit) c data_type columns (natureIn (formOf f) (now (left .entry))) (natureIn (formOf f) (now (right .entry))))) × Within (formOf f) (arraysRoom (formOf f) (now (left .entry)) (now (right .entry))) (now (first .exit)) (now (second .exit)) r ⌝ }
 {
-    let x = base::nature_of(left);
-    let y = base::nature_of(right);
-    let l = base::sizes_at(left);
+    let x = base::nature_of(f, left);
+    let y = base::nature_of(f, right);
+    let l = base::sizes_at(f, left);
     let k = lists_code(x, l.lists);
     if k != 0 {
         return Derived::Refused(k);
     }
-    let r = base::sizes_at(right);
+    let r = base::sizes_at(f, right);
     let m = lists_code(y, r.lists);
     if m != 0 {
         return Derived::Refused(m);
@@ -91,23 +98,40 @@ fn propagate_binary_categorical_nature(
     if !has_rule(c) {
         return Derived::Refused(refusals::NO_RULE);
     }
-    categories::lists_pair(c, columns, left, right, first, second)
+    categories::lists_pair(
+        f,
+        c,
+        columns,
+        left,
+        right,
+        us,
+        bs,
+        store,
+        hints,
+        first,
+        second,
+    )
 }
 
 // One category operand: 19, 20, 22, then the mapping.
 fn propagate_unary_categorical_nature(
+    f: Form,
     c: Component,
     data_type: u8,
     columns: usize,
     s: &[u8],
+    us: &mut [i64],
+    store: &mut [i64],
+    hints: &mut [u8],
     first: &mut [u8],
     second: &mut [u8],
 ) -> Derived
-    requires { ⌜ Lists (now s) × Ready columns (now first) (now second) × (hasRule (familyOf c) ≡ true) ⌝ }
-    ensures { λ r. ⌜ (derivedIn r (now (first .exit)) (now (second .exit)) ≡ inWriting narrow (listsAlone (narrow .categoryLimit) c data_type columns (natureIn narrow (now (s .entry))))) × Within r ⌝ }
+    requires { ⌜ Lists (formOf f) (now s) × Ready (formOf f) columns (now first) (now second) × (hasRule (familyOf c) ≡ true) ⌝ }
+    requires { ⌜ Lent (formOf f) (now s) (now s) (now us) (now us) (now store) (now hints) (now first) (now second) ⌝ }
+    ensures { λ r. ⌜ (derivedIn r (now (first .exit)) (now (second .exit)) ≡ inWriting (formOf f) (listsAlone (formOf f .categoryLimit) c data_type columns (natureIn (formOf f) (now (s .entry))))) × Within (formOf f) (arraysRoom (formOf f) (now (s .entry)) (now (s .entry))) (now (first .exit)) (now (second .exit)) r ⌝ }
 {
-    let x = base::nature_of(s);
-    let sizes = base::sizes_at(s);
+    let x = base::nature_of(f, s);
+    let sizes = base::sizes_at(f, s);
     let k = lists_code(x, sizes.lists);
     if k != 0 {
         return Derived::Refused(k);
@@ -115,28 +139,34 @@ fn propagate_unary_categorical_nature(
     if x == form::BOOL_LISTS {
         return Derived::Refused(refusals::NO_RULE);
     }
-    categories::lists_alone(c, columns, s, first, second)
+    categories::lists_alone(f, c, columns, s, us, store, hints, first, second)
 }
 
 pub fn propagate_binary_nature(
+    f: Form,
     c: Component,
     data_type: u8,
     columns: usize,
     left: &[u8],
     right: &[u8],
+    us: &mut [i64],
+    bs: &mut [i64],
+    store: &mut [i64],
+    hints: &mut [u8],
     first: &mut [u8],
     second: &mut [u8],
 ) -> Derived
-    requires { ⌜ Read (now left) × Read (now right) × Ready columns (now first) (now second) × Reached c data_type (now right) ⌝ }
-    ensures { λ r. ⌜ (derivedIn r (now (first .exit)) (now (second .exit)) ≡ inWriting narrow (binaryNature (narrow .categoryLimit) c data_type columns (natureIn narrow (now (left .entry))) (natureIn narrow (now (right .entry))))) × Within r ⌝ }
+    requires { ⌜ Read (formOf f) (now left) × Read (formOf f) (now right) × Ready (formOf f) columns (now first) (now second) × Reached (formOf f) c data_type (now right) ⌝ }
+    requires { ⌜ Lent (formOf f) (now left) (now right) (now us) (now bs) (now store) (now hints) (now first) (now second) ⌝ }
+    ensures { λ r. ⌜ (derivedIn r (now (first .exit)) (now (second .exit)) ≡ inWriting (formOf f) (binaryNature (formOf f .categoryLimit) c data_type columns (natureIn (formOf f) (now (left .entry))) (natureIn (formOf f) (now (right .entry))))) × Within (formOf f) (arraysRoom (formOf f) (now (left .entry)) (now (right .entry))) (now (first .exit)) (now (second .exit)) r ⌝ }
 {
-    let x = base::nature_of(left);
-    let y = base::nature_of(right);
+    let x = base::nature_of(f, left);
+    let y = base::nature_of(f, right);
     if x == form::ABSENT_NATURE {
-        return nothing_stated();
+        return nothing_stated(f);
     }
     if y == form::ABSENT_NATURE {
-        return nothing_stated();
+        return nothing_stated(f);
     }
     if form::is_range(x) {
         if form::is_range(y) {
@@ -144,6 +174,7 @@ pub fn propagate_binary_nature(
                 return Derived::Refused(refusals::RANGE_KINDS);
             }
             return ranges::range_pair(
+                f,
                 c,
                 data_type,
                 x == form::FLOAT_RANGE,
@@ -154,32 +185,51 @@ pub fn propagate_binary_nature(
                 second,
             );
         }
-        return nothing_stated();
+        return nothing_stated(f);
     }
     if form::is_range(y) {
-        return nothing_stated();
+        return nothing_stated(f);
     }
-    propagate_binary_categorical_nature(c, data_type, columns, left, right, first, second)
+    propagate_binary_categorical_nature(
+        f,
+        c,
+        data_type,
+        columns,
+        left,
+        right,
+        us,
+        bs,
+        store,
+        hints,
+        first,
+        second,
+    )
 }
 
 // Abs and Negative.
 pub fn propagate_unary_nature(
+    f: Form,
     c: Component,
     data_type: u8,
     columns: usize,
     s: &[u8],
+    us: &mut [i64],
+    store: &mut [i64],
+    hints: &mut [u8],
     first: &mut [u8],
     second: &mut [u8],
 ) -> Derived
-    requires { ⌜ Read (now s) × Ready columns (now first) (now second) × (hasRule (familyOf c) ≡ true) ⌝ }
-    ensures { λ r. ⌜ (derivedIn r (now (first .exit)) (now (second .exit)) ≡ inWriting narrow (unaryNature (narrow .categoryLimit) c data_type columns (natureIn narrow (now (s .entry))))) × Within r ⌝ }
+    requires { ⌜ Read (formOf f) (now s) × Ready (formOf f) columns (now first) (now second) × (hasRule (familyOf c) ≡ true) ⌝ }
+    requires { ⌜ Lent (formOf f) (now s) (now s) (now us) (now us) (now store) (now hints) (now first) (now second) ⌝ }
+    ensures { λ r. ⌜ (derivedIn r (now (first .exit)) (now (second .exit)) ≡ inWriting (formOf f) (unaryNature (formOf f .categoryLimit) c data_type columns (natureIn (formOf f) (now (s .entry))))) × Within (formOf f) (arraysRoom (formOf f) (now (s .entry)) (now (s .entry))) (now (first .exit)) (now (second .exit)) r ⌝ }
 {
-    let x = base::nature_of(s);
+    let x = base::nature_of(f, s);
     if x == form::ABSENT_NATURE {
-        return nothing_stated();
+        return nothing_stated(f);
     }
     if form::is_range(x) {
         return ranges::range_pair(
+            f,
             c,
             data_type,
             x == form::FLOAT_RANGE,
@@ -190,5 +240,5 @@ pub fn propagate_unary_nature(
             second,
         );
     }
-    propagate_unary_categorical_nature(c, data_type, columns, s, first, second)
+    propagate_unary_categorical_nature(f, c, data_type, columns, s, us, store, hints, first, second)
 }

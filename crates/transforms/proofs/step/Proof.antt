@@ -1,96 +1,120 @@
 -- `transforms::step` meets its contract. Assumes nothing.
-use mathlib.Core.Path.{sym, ap, _∙_}
+use mathlib.Core.Path.{_≡_, sym, ap, subst, _∙_}
+use mathlib.Core.List.{List}
+use Prim.Native.Nat.{ℕ}
+use lib.IntN.{ℤ}
 use denote.Ref.{now}
 use borrow.Author.Needs.{needs}
+use Rattle.base.specs.Form.{Form, formOf}
+use Rattle.base.specs.declared.Family.{Family}
 use Rattle.base.specs.Components.{isUnary}
+use Rattle.transforms.specs.Code.{secondOf, Buffers, Lent}
+use Rattle.transforms.proofs.Lending.{lent-alone}
 use Rattle.transforms.proofs.Delivered.{was-read, right-was-read, step-left-refused, step-right-refused, step-alone, step-paired, step-copied}
 use Rattle.transforms.proofs.step.Statement.{statement}
 use Rattle.transforms.proofs.step.Tie as tie
 
+-- what the step is lent, once the family is known
+for-family :
+    (F : Form) (left right first second out : List ℕ) (us bs store : List ℤ) (hints : List ℕ) {m n : Family} → m ≡ n
+    → Buffers F left (secondOf m left right) first second out × Lent F left (secondOf m left right) us bs store hints first second
+    → Buffers F left (secondOf n left right) first second out × Lent F left (secondOf n left right) us bs store hints first second
+for-family F left right first second out us bs store hints =
+    subst (λ (k : Family). Buffers F left (secondOf k left right) first second out × Lent F left (secondOf k left right) us bs store hints first second)
+
 returns : tie.Need-returns
 returns c =
-    let left = c .before in
-    let a = left .before .before .before .before .args in
-    (step-left-refused (a .c) (a .node) (now (a .left)) (now (a .right)) (left .check-sheet .ensures) (c .if1 .taken), tt)
+    let a = c .before .before .before .before .before .before .before .before .args in
+    (step-left-refused (formOf (a .f)) (a .c) (a .node) (now (a .left)) (now (a .right)) (c .before .check-sheet .ensures) (c .if1 .taken), tt)
 
 returns-2 : tie.Need-returns-2
 returns-2 c =
     let right = c .before in
     let family = right .before in
     let left = family .before .before in
-    let a = left .before .before .before .before .args in (
-      step-right-refused (a .c) (a .node) (now (a .left)) (now (a .right)) (left .check-sheet .ensures) (family .before .if1 .left) (family .family .ensures)
+    let a = left .before .before .before .before .before .before .before .args in (
+      step-right-refused (formOf (a .f)) (a .c) (a .node) (now (a .left)) (now (a .right)) (left .check-sheet .ensures) (family .before .if1 .left) (family .family .ensures)
           (right .right-code .ensures) (c .if2 .taken),
       tt,
     )
 
 step-unary-requires : tie.Need-step-unary-requires
 step-unary-requires c κs =
-    let family = c .before .before .before .before .before in
+    let family = c .before .before .before .before .before .before .before .before .before .before in
     let left = family .before .before in
-    let a = left .before .before .before .before .args in
-    (was-read (now (a .left)) (left .check-sheet .ensures) (family .before .if1 .left), sym (family .family .ensures) ∙ c .before .enum-told .given .1, search needs)
+    let start = left .before .before .before .before .before .before .before in
+    let a = start .args in
+    let p = start .pre in
+    let e = sym (family .family .ensures) ∙ c .before .before .before .before .before .before .enum-told .given .1 in
+    let lent = for-family (formOf (a .f)) (now (a .left)) (now (a .right)) (now (a .first)) (now (a .second)) (now (a .out)) (now (a .us)) (now (a .bs)) (now (a .store)) (now (a .hints)) e p in
+    ((was-read (formOf (a .f)) (now (a .left)) (left .check-sheet .ensures) (family .before .if1 .left), e), (lent .0, lent-alone (lent .1)))
 
 step-pair-requires : tie.Need-step-pair-requires
 step-pair-requires c κs =
-    let told = c .before .enum-told2 .given .1 in
-    let right = c .before .before .before .before in
+    let told = c .before .before .before .before .before .before .before .enum-told2 .given .1 in
+    let right = c .before .before .before .before .before .before .before .before .before .before in
     let family = right .before in
     let left = family .before .before in
-    let a = left .before .before .before .before .args in (
-      was-read (now (a .left)) (left .check-sheet .ensures) (family .before .if1 .left),
-      right-was-read (now (a .right)) (family .family .result) (right .right-code .ensures) (c .before .before .before .if2 .left) (ap isUnary told),
-      sym (family .family .ensures) ∙ told,
-      search needs,
+    let start = left .before .before .before .before .before .before .before in
+    let a = start .args in (
+      (
+        was-read (formOf (a .f)) (now (a .left)) (left .check-sheet .ensures) (family .before .if1 .left),
+        right-was-read (formOf (a .f)) (now (a .right)) (family .family .result) (right .right-code .ensures) (c .before .before .before .before .before .before .before .before .before .if2 .left) (ap isUnary told),
+        sym (family .family .ensures) ∙ told,
+      ),
+      for-family (formOf (a .f)) (now (a .left)) (now (a .right)) (now (a .first)) (now (a .second)) (now (a .out)) (now (a .us)) (now (a .bs)) (now (a .store)) (now (a .hints)) (sym (family .family .ensures) ∙ told) (start .pre),
     )
 
 step-copy-requires : tie.Need-step-copy-requires
 step-copy-requires c κs =
-    let told = c .before .enum-told3 .given .1 in
-    let right = c .before .before .before .before in
+    let told = c .before .before .before .before .before .before .before .enum-told3 .given .1 in
+    let right = c .before .before .before .before .before .before .before .before .before .before in
     let family = right .before in
     let left = family .before .before in
-    let a = left .before .before .before .before .args in (
-      was-read (now (a .left)) (left .check-sheet .ensures) (family .before .if1 .left),
-      right-was-read (now (a .right)) (family .family .result) (right .right-code .ensures) (c .before .before .before .if2 .left) (ap isUnary told),
-      sym (family .family .ensures) ∙ told,
-      search needs,
+    let start = left .before .before .before .before .before .before .before in
+    let a = start .args in (
+      (
+        was-read (formOf (a .f)) (now (a .left)) (left .check-sheet .ensures) (family .before .if1 .left),
+        right-was-read (formOf (a .f)) (now (a .right)) (family .family .result) (right .right-code .ensures) (c .before .before .before .before .before .before .before .before .before .if2 .left) (ap isUnary told),
+        sym (family .family .ensures) ∙ told,
+      ),
+      for-family (formOf (a .f)) (now (a .left)) (now (a .right)) (now (a .first)) (now (a .second)) (now (a .out)) (now (a .us)) (now (a .bs)) (now (a .store)) (now (a .hints)) (sym (family .family .ensures) ∙ told) (start .pre),
     )
 
 returns-3 : tie.Need-returns-3
 returns-3 c =
-    let right = c .before .before .before .before .before .before .before in
+    let right = c .before .before .before .before .before .before .before .before .before .before .before .before .before .before .before .before .before .before .before .before in
     let family = right .before in
     let left = family .before .before in
-    let a = left .before .before .before .before .args in (
-      c .before .before .step-unary .ensures .0
-          ∙ step-alone (a .c) (a .node) (now (a .left)) (now (a .right)) (left .check-sheet .ensures) (family .before .if1 .left) (family .family .ensures)
-          (right .right-code .ensures) (c .before .before .before .before .enum-told .given .1),
-      c .before .before .step-unary .ensures .1,
+    let a = left .before .before .before .before .before .before .before .args in (
+      c .before .before .before .before .before .before .before .before .before .before .step-unary .ensures .0
+          ∙ step-alone (formOf (a .f)) (a .c) (a .node) (now (a .left)) (now (a .right)) (left .check-sheet .ensures) (family .before .if1 .left) (family .family .ensures)
+          (right .right-code .ensures) (c .before .before .before .before .before .before .before .before .before .before .before .before .before .before .before .before .before .enum-told .given .1),
+      c .before .before .before .before .before .before .before .before .before .before .step-unary .ensures .1,
     )
 
 returns-4 : tie.Need-returns-4
 returns-4 c =
-    let right = c .before .before .before .before .before .before .before in
+    let right = c .before .before .before .before .before .before .before .before .before .before .before .before .before .before .before .before .before .before .before .before .before .before in
     let family = right .before in
     let left = family .before .before in
-    let a = left .before .before .before .before .args in (
-      c .before .before .step-pair .ensures .0
-          ∙ step-paired (a .c) (a .node) (now (a .left)) (now (a .right)) (left .check-sheet .ensures) (family .before .if1 .left) (family .family .ensures)
-          (right .right-code .ensures) (c .before .before .before .before .before .before .if2 .left) (c .before .before .before .before .enum-told2 .given .1),
-      c .before .before .step-pair .ensures .1,
+    let a = left .before .before .before .before .before .before .before .args in (
+      c .before .before .before .before .before .before .before .before .before .before .before .step-pair .ensures .0
+          ∙ step-paired (formOf (a .f)) (a .c) (a .node) (now (a .left)) (now (a .right)) (left .check-sheet .ensures) (family .before .if1 .left) (family .family .ensures)
+          (right .right-code .ensures) (c .before .before .before .before .before .before .before .before .before .before .before .before .before .before .before .before .before .before .before .before .before .if2 .left) (c .before .before .before .before .before .before .before .before .before .before .before .before .before .before .before .before .before .before .before .enum-told2 .given .1),
+      c .before .before .before .before .before .before .before .before .before .before .before .step-pair .ensures .1,
     )
 
 returns-5 : tie.Need-returns-5
 returns-5 c =
-    let right = c .before .before .before .before .before .before .before in
+    let right = c .before .before .before .before .before .before .before .before .before .before .before .before .before .before .before .before .before .before .before .before .before .before in
     let family = right .before in
     let left = family .before .before in
-    let a = left .before .before .before .before .args in (
-      c .before .before .step-copy .ensures .0
-          ∙ step-copied (a .c) (a .node) (now (a .left)) (now (a .right)) (left .check-sheet .ensures) (family .before .if1 .left) (family .family .ensures)
-          (right .right-code .ensures) (c .before .before .before .before .before .before .if2 .left) (c .before .before .before .before .enum-told3 .given .1),
-      c .before .before .step-copy .ensures .1,
+    let a = left .before .before .before .before .before .before .before .args in (
+      c .before .before .before .before .before .before .before .before .before .before .before .step-copy .ensures .0
+          ∙ step-copied (formOf (a .f)) (a .c) (a .node) (now (a .left)) (now (a .right)) (left .check-sheet .ensures) (family .before .if1 .left) (family .family .ensures)
+          (right .right-code .ensures) (c .before .before .before .before .before .before .before .before .before .before .before .before .before .before .before .before .before .before .before .before .before .if2 .left) (c .before .before .before .before .before .before .before .before .before .before .before .before .before .before .before .before .before .before .before .enum-told3 .given .1),
+      c .before .before .before .before .before .before .before .before .before .before .before .step-copy .ensures .1,
     )
 
 pub step-spec : {M : Type 1} → statement M
@@ -109,8 +133,25 @@ step-spec =
     (λ c. search needs)
     step-copy-requires
     (λ c. search needs)
+    (λ c. search needs)
+    (λ c. search needs)
+    (λ c. search needs)
+    (λ c. search needs)
+    (λ c. search needs)
     returns-3
     (λ c. search needs)
+    (λ c. search needs)
+    (λ c. search needs)
+    (λ c. search needs)
+    (λ c. search needs)
+    (λ c. search needs)
+    (λ c. search needs)
     returns-4
+    (λ c. search needs)
+    (λ c. search needs)
+    (λ c. search needs)
+    (λ c. search needs)
+    (λ c. search needs)
+    (λ c. search needs)
     (λ c. search needs)
     returns-5)

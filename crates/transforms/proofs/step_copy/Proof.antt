@@ -4,50 +4,51 @@ use mir.Syntax.{w64}
 use mir.Val.{toZ, ofZ}
 use denote.Ref.{now}
 use borrow.Author.Needs.{needs}
-use Rattle.base.specs.Form.{narrow}
-use Rattle.base.proofs.Passed.{passed, long-enough}
-use Rattle.transforms.proofs.Passing.{copy-columns, reached}
+use Rattle.base.specs.Form.{formOf}
+use Rattle.transforms.proofs.Passing.{stands, copy-columns, reached}
 use Rattle.transforms.proofs.Delivered.{room, copy-refused, copy-nature-refused, copy-last-refused, copy-written}
 use Rattle.transforms.proofs.step_copy.Statement.{statement}
 use Rattle.transforms.proofs.step_copy.Tie as tie
 
 read-head-requires : tie.Need-read-head-requires
-read-head-requires c κs = let start = c .before .before .before in long-enough (passed narrow (now (start .args .left)) (start .pre .0 .sizes))
+read-head-requires c κs = stands (c .before .before .before .before .before .before .pre .0 .0)
 
 read-head-requires-2 : tie.Need-read-head-requires-2
-read-head-requires-2 c κs = let start = c .before .before .before .before in long-enough (passed narrow (now (start .args .right)) (start .pre .1 .sizes))
+read-head-requires-2 c κs = stands (c .before .before .before .before .before .before .before .pre .0 .1)
 
 returns : tie.Need-returns
 returns c =
-    let code = c .before in
-    let start = code .before .before .before .before .before .before in
-    (copy-refused (start .args .c) (now (start .args .left)) (now (start .args .right)) (code .copy-code .ensures) (c .if1 .taken), tt)
+    let a = c .before .before .before .before .before .before .before .before .before .before .args in
+    (copy-refused (formOf (a .f)) (a .c) (now (a .left)) (now (a .right)) (c .before .copy-code .ensures) (c .if1 .taken), tt)
 
 propagate-binary-nature-requires : tie.Need-propagate-binary-nature-requires
 propagate-binary-nature-requires c κs =
-    let width = c .before .before in
+    let width = c .before .before .before .before .before .before in
     let code = width .before .before in
     let head = code .before .before .read-head .ensures in
-    let start = code .before .before .before .before .before .before in
+    let start = code .before .before .before .before .before .before .before .before .before in
     let a = start .args in
     let p = start .pre in
     let none = sym (code .copy-code .ensures) ∙ width .before .if1 .left in
-    let limited = copy-columns (now (a .left)) (now (a .right)) (a .c) none (p .0 .fields) head (width .columns-of .ensures) in (
-      p .0,
-      p .1,
-      record { some-column = limited .0; within = limited .1; first-room = search needs; second-room = search needs },
-      reached (now (a .left)) (now (a .right)) (a .c) head none,
+    let limited = copy-columns (formOf (a .f)) (now (a .left)) (now (a .right)) (a .c) none (p .0 .0 .fields) head (width .columns-of .ensures) in (
+      (
+        p .0 .0,
+        p .0 .1,
+        record { some-column = limited .0; within = limited .1; first-room = p .1 .0 .first-room; second-room = p .1 .0 .second-room },
+        reached (formOf (a .f)) (now (a .left)) (now (a .right)) (a .c) head none,
+      ),
+      p .1 .1,
     )
 
 returns-2 : tie.Need-returns-2
 returns-2 c =
     let told = c .before .enum-told .given .1 in
-    let nature = c .before .before .before .before .before in
-    let width = nature .before .before .before in
+    let nature = c .before .before .before .before .before .before .before .before .before .before .before .before in
+    let width = nature .before .before .before .before .before .before .before in
     let code = width .before .before in
-    let start = code .before .before .before .before .before .before in
+    let a = code .before .before .before .before .before .before .before .before .before .args in
     rw (c .refusal .ensures, told) (
-      (copy-nature-refused (start .args .c) (now (start .args .left)) (now (start .args .right)) (code .copy-code .ensures)
+      (copy-nature-refused (formOf (a .f)) (a .c) (now (a .left)) (now (a .right)) (code .copy-code .ensures)
           (code .before .before .read-head .ensures) (width .columns-of .ensures) (width .before .if1 .left)
           (rw told at (nature .propagate-binary-nature .ensures .0))),
       tt,
@@ -55,17 +56,17 @@ returns-2 c =
 
 last-code-requires : tie.Need-last-code-requires
 last-code-requires c κs =
-    let p = c .before .before .before .before .before .before .before .before .before .before .before .before .before .before .before .before .pre in
-    (record { passed = p .0 .sizes; head = c .before .before .before .before .before .before .before .before .before .before .before .before .read-head .ensures }, record { passed = p .1 .sizes; head = c .before .before .before .before .before .before .before .before .before .before .before .read-head2 .ensures })
+    let p = c .before .before .before .before .before .before .before .before .before .before .before .before .before .before .before .before .before .before .before .before .before .before .before .before .before .before .before .before .before .before .pre .0 in
+    (record { passed = p .0 .sizes; head = c .before .before .before .before .before .before .before .before .before .before .before .before .before .before .before .before .before .before .before .before .before .before .before .read-head .ensures }, record { passed = p .1 .sizes; head = c .before .before .before .before .before .before .before .before .before .before .before .before .before .before .before .before .before .before .before .before .before .before .read-head2 .ensures })
 
 returns-3 : tie.Need-returns-3
 returns-3 c =
     let last = c .before in
-    let nature = last .before .before .before .before .before .before in
-    let width = nature .before .before .before in
+    let nature = last .before .before .before .before .before .before .before .before .before .before .before .before .before in
+    let width = nature .before .before .before .before .before .before .before in
     let code = width .before .before in
-    let start = code .before .before .before .before .before .before in (
-      copy-last-refused (start .args .c) (now (start .args .left)) (now (start .args .right)) (code .copy-code .ensures)
+    let a = code .before .before .before .before .before .before .before .before .before .args in (
+      copy-last-refused (formOf (a .f)) (a .c) (now (a .left)) (now (a .right)) (code .copy-code .ensures)
           (code .before .before .read-head .ensures) (width .columns-of .ensures) (width .before .if1 .left)
           (rw (last .before .before .derived .given .1) at (nature .propagate-binary-nature .ensures .0))
           (last .last-code .ensures) (c .if2 .taken),
@@ -73,29 +74,33 @@ returns-3 c =
     )
 
 node-at-requires : tie.Need-node-at-requires
-node-at-requires c κs = let start = c .before .before .before .before .before .before .before .before .before .before .before .before .before .before .before .before .before .before .before in long-enough (passed narrow (now (start .args .left)) (start .pre .0 .sizes))
+node-at-requires c κs = stands (c .before .before .before .before .before .before .before .before .before .before .before .before .before .before .before .before .before .before .before .before .before .before .before .before .before .before .before .before .before .before .before .before .before .pre .0 .0)
 
 put-pair-requires : tie.Need-put-pair-requires
 put-pair-requires c κs =
-    let nature = c .before .before .before .before .before .before .before .before .before .before .before .before in
-    let p = nature .before .before .before .before .before .before .before .before .before .before .before .pre in
-    let placed = rw (c .before .before .before .before .before .before .before .before .derived .given .1) at (nature .propagate-binary-nature .ensures .1) in
-    (room placed (p .0 .sizes) (search needs) (search needs) (search needs), room placed (p .1 .sizes) (search needs) (search needs) (search needs))
+    let known = c .before .before .before .before .before .before .before .before in
+    let nature = known .before .before .before .before .before .before .before .before .before .before .before in
+    let p = nature .before .before .before .before .before .before .before .before .before .before .before .before .before .before .before .before .before .before .pre in
+    let call = nature .propagate-binary-nature in
+    let lent = p .1 .0 in
+    let placed = rw (known .derived .given .1) at (call .ensures .1) in
+    (room placed (p .0 .0 .sizes) (lent .sheet-room), room placed (p .0 .1 .sizes) (lent .sheet-room))
 
 returns-4 : tie.Need-returns-4
 returns-4 c =
     let put = c .before .before in
     let node = put .before .before .before .before in
-    let last = put .before .before .before .before .before .before .before in
-    let nature = put .before .before .before .before .before .before .before .before .before .before .before .before .before in
-    let width = nature .before .before .before in
+    let last = node .before .before .before in
+    let known = last .before .before in
+    let nature = known .before .before .before .before .before .before .before .before .before .before .before in
+    let width = nature .before .before .before .before .before .before .before in
     let code = width .before .before in
-    let start = code .before .before .before .before .before .before in
+    let a = code .before .before .before .before .before .before .before .before .before .args in
     let back : toZ w64 (ofZ w64 (node .node-at .result)) ≡ node .node-at .result = search needs in (
-      copy-written (start .args .c) (now (start .args .left)) (now (start .args .right)) (code .copy-code .ensures)
+      copy-written (formOf (a .f)) (a .c) (now (a .left)) (now (a .right)) (code .copy-code .ensures)
           (code .before .before .read-head .ensures) (width .columns-of .ensures) (width .before .if1 .left)
-          (rw (put .before .before .before .before .before .before .before .before .before .derived .given .1) at (nature .propagate-binary-nature .ensures .0))
-          (last .last-code .ensures) (put .before .before .before .before .before .before .if2 .left) (code .before .read-head2 .ensures) (put .before .before .before .before .before .copy-head .ensures)
+          (rw (known .derived .given .1) at (nature .propagate-binary-nature .ensures .0))
+          (last .last-code .ensures) (node .before .before .if2 .left) (code .before .read-head2 .ensures) (node .before .copy-head .ensures)
           (rw (back, node .node-at .ensures) at (put .put-pair .ensures .1)),
       put .put-pair .ensures .0,
     )
@@ -109,19 +114,33 @@ step-copy-spec =
     (λ c κs. search needs)
     returns
     (λ c κs. search needs)
-    (λ c. search needs)
-    (λ c. search needs)
     propagate-binary-nature-requires
     (λ c. search needs)
     (λ c. search needs)
     (λ c κs. search needs)
+    (λ c. c .before .before .before .before .before .before .before .before .before .before .before .before .propagate-binary-nature .kept .1 .1 .1 .1 .1 .1 .1 .1 .1 .1 .0)
+    (λ c. c .before .before .before .before .before .before .before .before .before .before .before .before .propagate-binary-nature .kept .1 .1 .1 .1 .1 .1 .1 .1 .1 .1 .1 .0)
+    (λ c. c .before .before .before .before .before .before .before .before .before .before .before .before .propagate-binary-nature .kept .1 .1 .1 .1 .1 .1 .0)
+    (λ c. c .before .before .before .before .before .before .before .before .before .before .before .before .propagate-binary-nature .kept .1 .1 .1 .1 .1 .1 .1 .0)
+    (λ c. c .before .before .before .before .before .before .before .before .before .before .before .before .propagate-binary-nature .kept .1 .1 .1 .1 .1 .1 .1 .1 .0)
+    (λ c. c .before .before .before .before .before .before .before .before .before .before .before .before .propagate-binary-nature .kept .1 .1 .1 .1 .1 .1 .1 .1 .1 .0)
     returns-2
     last-code-requires
+    (λ c. c .before .before .before .before .before .before .before .before .before .before .before .before .before .before .propagate-binary-nature .kept .1 .1 .1 .1 .1 .1 .1 .1 .1 .1 .0)
+    (λ c. c .before .before .before .before .before .before .before .before .before .before .before .before .before .before .propagate-binary-nature .kept .1 .1 .1 .1 .1 .1 .1 .1 .1 .1 .1 .0)
+    (λ c. c .before .before .before .before .before .before .before .before .before .before .before .before .before .before .propagate-binary-nature .kept .1 .1 .1 .1 .1 .1 .0)
+    (λ c. c .before .before .before .before .before .before .before .before .before .before .before .before .before .before .propagate-binary-nature .kept .1 .1 .1 .1 .1 .1 .1 .0)
+    (λ c. c .before .before .before .before .before .before .before .before .before .before .before .before .before .before .propagate-binary-nature .kept .1 .1 .1 .1 .1 .1 .1 .1 .0)
+    (λ c. c .before .before .before .before .before .before .before .before .before .before .before .before .before .before .propagate-binary-nature .kept .1 .1 .1 .1 .1 .1 .1 .1 .1 .0)
     returns-3
     (λ c κs. search needs)
     node-at-requires
-    (λ c. search needs)
-    (λ c. search needs)
     put-pair-requires
-    (λ c. search needs)
+    (λ c. c .before .before .before .before .before .before .before .before .before .before .before .before .before .before .before .before .before .before .before .before .before .before .propagate-binary-nature .kept .1 .1 .1 .1 .1 .1 .1 .1 .1 .1 .0)
+    (λ c. c .before .before .before .before .before .before .before .before .before .before .before .before .before .before .before .before .before .before .before .before .before .before .propagate-binary-nature .kept .1 .1 .1 .1 .1 .1 .1 .1 .1 .1 .1 .0)
+    (λ c. c .before .before .before .before .before .before .before .before .before .before .before .before .before .before .before .before .before .before .before .before .before .before .propagate-binary-nature .kept .1 .1 .1 .1 .1 .1 .0)
+    (λ c. c .before .before .before .before .before .before .before .before .before .before .before .before .before .before .before .before .before .before .before .before .before .before .propagate-binary-nature .kept .1 .1 .1 .1 .1 .1 .1 .0)
+    (λ c. c .before .before .before .before .before .before .before .before .before .before .before .before .before .before .before .before .before .before .before .before .before .before .propagate-binary-nature .kept .1 .1 .1 .1 .1 .1 .1 .1 .0)
+    (λ c. c .before .before .before .before .before .before .before .before .before .before .before .before .before .before .before .before .before .before .before .before .before .before .propagate-binary-nature .kept .1 .1 .1 .1 .1 .1 .1 .1 .1 .0)
+    (λ c. c .before .before .put-pair .kept .1 .0)
     returns-4)

@@ -1,77 +1,77 @@
 -- `transforms::natures::propagate_unary_nature` meets its contract. Assumes nothing.
 use mathlib.Core.Path.{sym, ap, _∙_}
-use native.Mathlib.Omega.{arith}
 use denote.Ref.{now}
 use borrow.Author.Needs.{needs}
 use borrow.Author.Tests.{ne-eqb}
-use Rattle.numbers.specs.Result.{Result}
-use Rattle.base.specs.Form.{narrow, isRangeNature}
-use Rattle.base.specs.Sheet.{Nature}
+use Rattle.base.specs.Form.{formOf, isRangeNature}
 use Rattle.base.specs.Decode.{natureIn}
-use Rattle.base.proofs.Passed.{passed, long-enough}
+use Rattle.base.proofs.Forms.{laid}
 use Rattle.writer.specs.Written.{inWriting}
-use Rattle.transforms.specs.Code.{Lists}
+use Rattle.transforms.specs.Code.{Lists, arraysRoom}
+use Rattle.transforms.proofs.Passing.{stands}
+use Rattle.transforms.proofs.Lending.{range-room, ends-room, wider}
 use Rattle.transforms.proofs.Sorted.{number-of, alone-absent, alone-range, alone-lists}
 use Rattle.transforms.proofs.natures.propagate_unary_nature.Statement.{statement}
 use Rattle.transforms.proofs.natures.propagate_unary_nature.Tie as tie
 
 nature-of-requires : tie.Need-nature-of-requires
-nature-of-requires c κs =
-    let b = c .before .before .before in
-    long-enough (passed narrow (now (b .args .s)) (b .pre .0 .sizes))
+nature-of-requires c κs = stands (c .before .before .before .before .pre .0 .0)
 
 returns : tie.Need-returns
 returns c =
-    let b = c .before .before .before .before .before .before in
+    let b = c .before .before .before .before .before .before .before in
     let a = b .args in
+    let F = formOf (a .f) in
     let s = now (a .s) in
-    let e = alone-absent (narrow .categoryLimit) (a .c) (a .data-type) (a .columns) (natureIn narrow s) (number-of s (b .pre .0) ∙ sym (c .before .before .nature-of .ensures) ∙ c .before .if1 .taken) in
-    (c .nothing-stated .ensures .0 (now (a .first)) (now (a .second)) ∙ ap (λ (g : Result Nature). inWriting narrow g) (sym e), c .nothing-stated .ensures .1)
+    let e = alone-absent (F .categoryLimit) (a .c) (a .data-type) (a .columns) (natureIn F s) (number-of F s (b .pre .0 .0) ∙ sym (c .before .before .nature-of .ensures) ∙ c .before .if1 .taken) in
+    let n = c .nothing-stated .ensures (arraysRoom F (now (a .s)) (now (a .s))) (now (a .first)) (now (a .second)) in
+    (n .0 ∙ ap (inWriting F) (sym e), n .1)
 
 range-pair-requires : tie.Need-range-pair-requires
 range-pair-requires c κs =
-    let b = c .before .before .before .before .before .before .before .before .before in
+    let b = c .before .before .before .before .before .before .before .before .before .before in
+    let ready = b .pre .0 .1 in
     let range = rw (c .before .before .before .before .before .nature-of .ensures) at (sym (c .before .before .before .is-range .ensures) ∙ c .before .before .if2 .taken) in
-    let ready = b .pre .1 in
-    let within = ready .within in
-    let first = ready .first-room in
-    let second = ready .second-room in
-    (b .pre .0 .sizes, range, b .pre .0 .sizes, range, within, omega arith, omega arith)
+    let room = range-room ready (laid (b .args .f)) in
+    (b .pre .0 .0 .sizes, range, b .pre .0 .0 .sizes, range, ready .within, room .0, room .1)
 
 returns-2 : tie.Need-returns-2
 returns-2 c =
     let d = c .before .before .before .before in
-    let b = d .before .before .before .before .before .before .before .before .before .before in
+    let b = d .before .before .before .before .before .before .before .before .before .before .before in
     let a = b .args in
+    let F = formOf (a .f) in
     let k = d .before .before .before .before .before .before .nature-of .ensures in
     let range = rw k at (sym (d .before .before .before .before .is-range .ensures) ∙ d .before .before .before .if2 .taken) in
-    let e = alone-range (narrow .categoryLimit) (a .c) (a .data-type) (a .columns) (b .pre .2) (now (a .s)) range in
-    ((rw k at (d .range-pair .ensures .0)) ∙ ap (λ (g : Result Nature). inWriting narrow g) (sym e), d .range-pair .ensures .1)
+    let e = alone-range (F .categoryLimit) (a .c) (a .data-type) (a .columns) (b .pre .0 .2) F (now (a .s)) range in
+    ((rw k at (d .range-pair .ensures .0)) ∙ ap (inWriting F) (sym e), wider F _ _ (ends-room (laid (a .f)) (now (a .s)) (now (a .s))) (d .range-pair .result) (d .range-pair .ensures .1))
 
 -- neither absent nor a range
-listing : (c : tie.Else2) → Lists (now (c .before .before .before .before .before .before .before .args .s))
-listing c = record {
-  read = c .before .before .before .before .before .before .before .pre .0;
-  present = rw (c .before .before .before .nature-of .ensures) at (ne-eqb (c .before .before .before .nature-of .result) 0 (c .before .before .if1 .left));
-  no-range = rw (c .before .before .before .nature-of .ensures) at (sym (c .before .is-range .ensures) ∙ c .if2 .left);
-}
+listing : (c : tie.Else2) → Lists (formOf (c .before .before .before .before .before .before .before .before .args .f)) (now (c .before .before .before .before .before .before .before .before .args .s))
+listing c =
+    let z = c .before .before .before in
+    record {
+      read = c .before .before .before .before .before .before .before .before .pre .0 .0;
+      present = rw (z .nature-of .ensures) at (ne-eqb (z .nature-of .result) 0 (c .before .before .if1 .left));
+      no-range = rw (z .nature-of .ensures) at (sym (c .before .is-range .ensures) ∙ c .if2 .left);
+    }
 
 propagate-unary-categorical-nature-requires : tie.Need-propagate-unary-categorical-nature-requires
 propagate-unary-categorical-nature-requires c κs =
-    let w = c .before .before in
-    let b = w .before .before .before .before .before .before .before in
-    (listing w, b .pre .1, b .pre .2)
+    let b = c .before .before .before .before .before .before .before .before .before .before .before .before .before in
+    ((listing (c .before .before .before .before .before), b .pre .0 .1, b .pre .0 .2), b .pre .1)
 
 returns-3 : tie.Need-returns-3
 returns-3 c =
-    let d = c .before .before .before .before in
-    let w = d .before .before .before in
-    let a = w .before .before .before .before .before .before .before .args in
+    let d = c .before .before .before .before .before .before .before .before in
+    let w = d .before .before .before .before .before .before in
+    let a = w .before .before .before .before .before .before .before .before .args in
+    let F = formOf (a .f) in
     let s = now (a .s) in
     let l = listing w in
-    let p = number-of s (l .read) in
-    let e = alone-lists (narrow .categoryLimit) (a .c) (a .data-type) (a .columns) (natureIn narrow s) (λ z. w .before .before .if1 .left (w .before .before .before .nature-of .ensures ∙ sym p ∙ z)) (ap isRangeNature p ∙ l .no-range) in
-    (d .propagate-unary-categorical-nature .ensures .0 ∙ ap (λ (g : Result Nature). inWriting narrow g) (sym e), d .propagate-unary-categorical-nature .ensures .1)
+    let p = number-of F s (l .read) in
+    let e = alone-lists (F .categoryLimit) (a .c) (a .data-type) (a .columns) (natureIn F s) (λ z. w .before .before .if1 .left (w .before .before .before .nature-of .ensures ∙ sym p ∙ z)) (ap isRangeNature p ∙ l .no-range) in
+    (d .propagate-unary-categorical-nature .ensures .0 ∙ ap (inWriting F) (sym e), d .propagate-unary-categorical-nature .ensures .1)
 
 pub propagate-unary-nature-spec : {M : Type 1} → statement M
 propagate-unary-nature-spec =
@@ -86,6 +86,9 @@ propagate-unary-nature-spec =
     (λ c. search needs)
     returns-2
     propagate-unary-categorical-nature-requires
+    (λ c. search needs)
+    (λ c. search needs)
+    (λ c. search needs)
     (λ c. search needs)
     (λ c. search needs)
     returns-3)
