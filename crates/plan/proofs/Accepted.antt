@@ -11,23 +11,25 @@ use lib.Dec.{eqb, ltb}
 use lib.ListN.{length, take, drop, getD, length-take, List·getD-eq-default}
 use lib.Seq.{take-take, getD-take, getD-drop}
 use borrow.Author.Tests.{eqb-true, eqb-false, ltb-true, ltb-false}
+use Rattle.bytes.proofs.Reread.{AllBytes}
 use Rattle.numbers.specs.Result.{Result, ok, refused}
 use Rattle.utilities.specs.Lists.{listFrom}
 use Rattle.base.specs.Form.{narrow, longest, lengthCalledFor}
 use Rattle.base.specs.Sheet.{Sheet}
 use Rattle.base.specs.Decode.{decode}
 use Rattle.base.specs.Checks.{read}
+use Rattle.base.specs.declared.form.Form.the-variants as Stored
+use Rattle.base.proofs.Forms.{laid}
 use Rattle.base.proofs.Passed.{Passed}
 use Rattle.transforms.specs.Derive.{derive}
 use Rattle.transforms.specs.Single.{Outcome, outcome}
-use Rattle.writer.proofs.Groups.{AllBytes}
+use Rattle.derived.specs.Held.{Held}
+use Rattle.derived.proofs.Gives.{Gives}
+use Rattle.derived.proofs.Decoded.{decoded-held, read-gives}
 use Rattle.plan.specs.Form.{nodeLimit, noNode, nodeCount, leafCount, stepCount, leftOf, rightOf, planFails}
 use Rattle.plan.specs.Walk.{slotAt, slot, sheetIn, stepOn, unlessRefused, walk, leafThen, leavesThen, leafNodes, stepNodes, plan}
-use Rattle.plan.specs.Held.{Held}
 use Rattle.plan.proofs.FormLaws.{Planned, planned}
-use Rattle.plan.proofs.Gives.{Gives}
-use Rattle.plan.proofs.Decoded.{decoded-held}
-use Rattle.plan.proofs.Slots.{read-gives, sheet-same, sheetAt, Derives, Stepped, step-made}
+use Rattle.plan.proofs.Slots.{sheet-same, sheetAt, Derives, Stepped, step-made}
 
 -- ---- leaves
 
@@ -55,7 +57,7 @@ leaves-made work rest zero i e = record { same = refl; passed = λ j a b. absurd
 leaves-made work rest (suc n) i e =
     let s = sheetIn narrow i work in
     let tail = leavesThen narrow (listFrom n (i + 1) (λ k. k)) work rest in
-    let h = leaf-made (λ x. x ≡ decode narrow s) (Passed narrow s) (read narrow s) i work tail (read-gives s) e in
+    let h = leaf-made (λ x. x ≡ decode narrow s) (Passed narrow s) (read narrow s) i work tail (read-gives narrow s) e in
     let r = leaves-made work rest n (i + 1) (ap (λ (o : Outcome). o .code) (sym (h .0)) ∙ e) in
     record {
       same = h .0 ∙ r .same;
@@ -106,18 +108,18 @@ module _ (p : List ℕ) where
         is = sheets-same (k + 1) after next e k (omega arith) ∙ d .is;
       }
 
-  held-next : (k : ℕ) (work next : List ℕ) → ((j : ℕ) → j < k → Held (sheetAt j work)) → Stepped p k work next → (j : ℕ) → j < k + 1 → Held (sheetAt j next)
+  held-next : (k : ℕ) (work next : List ℕ) → ((j : ℕ) → j < k → Held narrow (sheetAt j work)) → Stepped p k work next → (j : ℕ) → j < k + 1 → Held narrow (sheetAt j next)
   held-next k work next held s j h = go (eqb j k) refl
     where
-      go : (t : Bool) → eqb j k ≡ t → Held (sheetAt j next)
-      go true e = subst (λ (i : ℕ). Held (sheetAt i next)) (sym (eqb-true j k e)) (s .held)
+      go : (t : Bool) → eqb j k ≡ t → Held narrow (sheetAt j next)
+      go true e = subst (λ (i : ℕ). Held narrow (sheetAt i next)) (sym (eqb-true j k e)) (s .held)
       go false e =
           let n = eqb-false j k e in
           let b : j < k = omega arith in
-          subst Held (sym (sheets-same k next work (s .before) j b)) (held j b)
+          subst (Held narrow) (sym (sheets-same k next work (s .before) j b)) (held j b)
 
   walk-made : (n k : ℕ) (work : List ℕ) → k + n ≤ nodeLimit → slotAt narrow (k + n) ≤ length work
-      → ((i : ℕ) → k ≤ i → i < k + n → (leftOf p i < i) × (rightOf p i < i)) → ((j : ℕ) → j < k → Held (sheetAt j work))
+      → ((i : ℕ) → k ≤ i → i < k + n → (leftOf p i < i) × (rightOf p i < i)) → ((j : ℕ) → j < k → Held narrow (sheetAt j work))
       → walk narrow p (listFrom n k (λ i. i)) work .code ≡ 0 → Walked p n k work (walk narrow p (listFrom n k (λ i. i)) work .bytes)
   unfolding walk listFrom
   walk-made zero k work few room earlier held e = record { before = refl; derives = λ i a b. absurd (omega arith) }
@@ -178,8 +180,10 @@ module _ (p work : List ℕ) (small : AllBytes work) where
       let l = leaves-made work rest (leafCount p) 0 e in
       let few = f .nodes in
       let some-leaves = f .leaves in
-      let held : (j : ℕ) → j < leafCount p → Held (sheetAt j work) =
-      λ j h. decoded-held (sheetIn narrow j work) (sheet-bytes j work small) (l .passed j (omega arith) (omega arith)) in
+      let held : (j : ℕ) → j < leafCount p → Held narrow (sheetAt j work) =
+      λ j h.
+      let d = l .passed j (omega arith) (omega arith) in
+      decoded-held (laid Stored.Narrow) (sheetIn narrow j work) (sheet-bytes j work small) (record { sizes = d .sizes; fields = d .fields }) in
       let w = walk-made p (stepCount p) (leafCount p) work (omega arith) (omega arith) (λ i a b. f .earlier i a (omega arith)) held
       (ap (λ (o : Outcome). o .code) (sym (l .same)) ∙ e) in
       subst (λ (o : Outcome). Accepted p work (o .bytes)) (sym (l .same))

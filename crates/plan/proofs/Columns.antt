@@ -16,8 +16,8 @@ use Rattle.utilities.specs.Lists.{repeated}
 use Rattle.utilities.specs.Columns.{spreads, each, eachPair}
 use Rattle.utilities.proofs.Repeated.{repeated-full}
 use Rattle.ranges.specs.Ranges.{rangePair, rangeAlone}
+use Rattle.derived.proofs.Answers.{ok-same}
 use Rattle.plan.specs.Demand.{entryFor, OneOrPerColumn}
-use Rattle.plan.proofs.Answers.{ok-same}
 
 -- ---- the entry for a column
 

@@ -28,7 +28,7 @@ use Rattle.base.proofs.Permitted.{permitted, columns-within}
 use Rattle.shape.specs.Shape.{columnsOf}
 use Rattle.shape.specs.Fields.{withNode, numbered}
 use Rattle.transforms.specs.Derive.{derive}
-use Rattle.writer.proofs.Groups.{AllBytes}
+use Rattle.bytes.proofs.Reread.{AllBytes}
 use Rattle.plan.specs.Form.{nodeCount, leafCount, componentNumber, leftOf, rightOf}
 use Rattle.plan.specs.Walk.{sheetIn, plan}
 use Rattle.plan.specs.Exact.{Row, Results, exactOf, columnOf, leafResults, stepResults, nodeResults, resultsOf}

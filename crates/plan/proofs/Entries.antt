@@ -18,11 +18,12 @@ use Rattle.base.specs.declared.Component.the-variants as C
 use Rattle.ends.specs.Ends.{endRule, unknown, spanOf}
 use Rattle.ranges.specs.Ranges.{wholeRule}
 use Rattle.categories.specs.Categories.{remainder}
+use Rattle.derived.proofs.Answers.{some-same, none-some}
 use Rattle.plan.specs.Exact.{unlessZero, exact}
 use Rattle.plan.specs.Demand.{AtLeast, AtMost, InSpan, SpanOffZero}
 use Rattle.plan.specs.Asks.{Defined, Asks, LowerAboveZero, LowerNotNegative}
 use Rattle.plan.proofs.Order.{≤-trans, lt-one, lt-minus}
-use Rattle.plan.proofs.Answers.{some-same, none-some, nothing}
+use Rattle.plan.proofs.Answers.{nothing}
 use Rattle.plan.proofs.Spans.{add-keeps, neg-keeps, abs-keeps, mul-keeps, div-keeps, mod-keeps}
 
 -- ---- the result exists

@@ -1,4 +1,5 @@
 -- Laws of the plan's form.
+--     longest-is                          a slot, in bytes
 --     permitted-unlisted, permitted-is    the test of a step, by what its number names
 --     planned                             a plan that passed 1: its counts, its length and its steps
 --     step-of, listed, earlier            a step of such a plan
@@ -11,6 +12,7 @@ use native.Mathlib.Omega.{arith}
 use lib.Dec.{T, eqb, ltb}
 use lib.ListN.{length}
 use borrow.Author.Tests.{eqb-true, eqb-false, ltb-true, ltb-false, not-false}
+use Rattle.base.specs.Form.{narrow, longest}
 use Rattle.base.specs.Checks.{holdsFrom}
 use Rattle.base.specs.Components.{componentOf, familyOf, isUnary}
 use Rattle.base.specs.declared.Component.{Component}
@@ -20,6 +22,10 @@ use Rattle.base.proofs.Flags.{or-no, and-both}
 use Rattle.base.proofs.Holding.{holds-within}
 use Rattle.plan.specs.Form.{nodeLimit, stepsAt, nodeCount, leafCount, stepCount, componentNumber, leftOf, rightOf, stepPermitted, planFails}
 use Rattle.plan.specs.Code.{StepOf}
+
+-- 01: "The longest sheet is 1,284 bytes", and "slots of 1,284 bytes"
+pub longest-is : longest narrow ≡ 1284
+longest-is = refl
 
 -- whether node k is a permitted step
 abbrev pub permitted : List ℕ → ℕ → Bool

@@ -15,12 +15,6 @@ pub mod Natures
 pub mod Nodes
 pub mod Passed
 pub mod Steps
-pub mod Each
-pub mod Gives
-pub mod Fitted
-pub mod Made
-pub mod Decoded
-pub mod Derived
 pub mod FormLaws
 pub mod Slots
 pub mod Accepted

@@ -17,9 +17,9 @@ use Rattle.base.specs.Encode.{total}
 use Rattle.base.specs.Sheet.{Nature, wholeLists}
 use Rattle.base.specs.declared.Component.{Component}
 use Rattle.categories.specs.Categories.{categoryRule, pairs, product, combined, mapped, counted, limited}
+use Rattle.derived.proofs.Answers.{ok-same, some-same}
 use Rattle.plan.specs.Exact.{exact}
 use Rattle.plan.specs.Demand.{entryFor, InList, OneOrPerColumn}
-use Rattle.plan.proofs.Answers.{ok-same, some-same}
 use Rattle.plan.proofs.Rules.{rule-exact}
 use Rattle.plan.proofs.Columns.{Columnwise, column-keeps, spread-columns, each-twice}
 

@@ -17,11 +17,11 @@ use Rattle.ends.specs.Ends.{endRule}
 use Rattle.ranges.specs.Ranges.{wholeRule, rangePair, rangeAlone}
 use Rattle.categories.specs.Categories.{categoryRule, combined, mapped, limited}
 use Rattle.transforms.specs.Natures.{ruled, listsPair, listsAlone, wholeRangeWith, listsWith, binaryNature, unaryNature}
+use Rattle.derived.proofs.Answers.{ok-same, checked-rest}
 use Rattle.plan.specs.Exact.{exact}
 use Rattle.plan.specs.Demand.{entryFor, InList, Keeps, ListOffZero, OneOrPerColumn}
 use Rattle.plan.specs.Asks.{Defined, Asks}
 use Rattle.plan.specs.Good.{Fitting, Spread, Admitted}
-use Rattle.plan.proofs.Answers.{ok-same, checked-rest}
 use Rattle.plan.proofs.Entries.{span-defined}
 use Rattle.plan.proofs.Ranges.{pair-many, pair-keeps, alone-many, alone-keeps}
 use Rattle.plan.proofs.Lists.{limited-ok, combined-many, combined-found, mapped-many, mapped-found, found-exact}

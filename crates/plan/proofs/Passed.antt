@@ -24,10 +24,10 @@ use Rattle.base.proofs.Flags.{and-both}
 use Rattle.ends.specs.Ends.{spanOf}
 use Rattle.shape.specs.Orders.{operandChecks, bothOf, moduloChecks, logChecks, powerChecks, boundChecks, copyChecks}
 use Rattle.shape.specs.Shape.{columnsAbsent}
+use Rattle.derived.proofs.Answers.{checked-after, checked-before}
 use Rattle.plan.specs.Demand.{entryFor, OneOrPerColumn}
 use Rattle.plan.specs.Asks.{LowerAboveZero, LowerNotNegative}
 use Rattle.plan.specs.Good.{Fitting, Spread, OfRange}
-use Rattle.plan.proofs.Answers.{checked-after, checked-before}
 use Rattle.plan.proofs.Columns.{entry-full, entry-one}
 use Rattle.plan.proofs.Nodes.{Reaches}
 

@@ -15,8 +15,8 @@ use Rattle.base.specs.Form.{intType}
 use Rattle.base.specs.declared.Component.{Component}
 use Rattle.base.specs.declared.Component.the-variants as C
 use Rattle.categories.specs.Categories.{remainder, modWhole, powerWhole, categoryRule}
+use Rattle.derived.proofs.Answers.{ok-same, some-same, none-some}
 use Rattle.plan.specs.Exact.{exact}
-use Rattle.plan.proofs.Answers.{ok-same, some-same, none-some}
 use Rattle.plan.proofs.Spans.{quotient-inv}
 use Rattle.plan.proofs.Entries.{unless-some}
 

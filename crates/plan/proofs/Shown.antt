@@ -29,8 +29,8 @@ use Rattle.shape.specs.Shape.{columnsOf}
 use Rattle.transforms.specs.Computing.{computing}
 use Rattle.transforms.specs.Shelf.{minus}
 use Rattle.transforms.specs.Single.{Outcome, outcome}
-use Rattle.writer.specs.WellFormed.{Each}
-use Rattle.writer.proofs.Groups.{AllBytes}
+use Rattle.round_trip.specs.WellFormed.{Each}
+use Rattle.bytes.proofs.Reread.{AllBytes}
 use Rattle.plan.specs.Form.{nodeCount, leafCount, stepCount, componentNumber, leftOf, rightOf, planFails, stepPermitted}
 use Rattle.plan.specs.Walk.{plan, walk, stepOn, sheetIn, leavesThen, leafNodes, stepNodes}
 use Rattle.plan.specs.Exact.{Row, Results, exact, resultsOf, resultAt}

@@ -1,5 +1,4 @@
 -- One step on the work buffer: its own slot holds the derived sheet afterwards, and the slots before it are as they were.
---     read-gives      what is read has passed 3 to 5 and is what is decoded
 --     sheet-same      a slot is known by the bytes up to its end
 --     sheet-stands    a sheet at its slot's start is the slot's sheet, whatever follows
 --     step-made       a step that gives 0
@@ -10,98 +9,35 @@ use mathlib.Core.List.{List, [], _∷_, _++_, append-nil}
 use Prim.Native.Nat.{ℕ, zero, suc, _+_, _-_, _^_, _≤_, _<_}
 use native.Mathlib.Nat.{zero-add, suc-add}
 use native.Mathlib.Omega.{arith}
-use lib.Dec.{T, leb}
+use lib.Dec.{leb}
 use lib.ListN.{length, take, drop, length-append, length-drop}
 use lib.Seq.{take-nil, take-take, take-at, drop-at, take-append-add, length-take-le}
 use borrow.Author.Tests.{leb-true}
 use Rattle.bytes.specs.Deliver.{delivered}
-use Rattle.numbers.specs.Result.{Result, ok, refused, andThen}
-use Rattle.base.specs.Form.{narrow, longest}
+use Rattle.numbers.specs.Result.{Result, ok, refused}
+use Rattle.base.specs.Form.{Laid, narrow, longest}
 use Rattle.base.specs.Sheet.{Sheet}
 use Rattle.base.specs.Decode.{decode}
 use Rattle.base.specs.Encode.{encode}
-use Rattle.base.specs.Checks.{read, sheetChecks}
-use Rattle.base.specs.Code.{codeOf}
-use Rattle.base.specs.Components.{componentOf, familyOf, isUnary}
+use Rattle.base.specs.Components.{componentOf, familyOf}
 use Rattle.base.specs.declared.Component.{Component}
-use Rattle.base.specs.declared.Family.{Family}
-use Rattle.base.specs.declared.Family.the-variants as Fam
 use Rattle.base.specs.declared.Numbered.{Numbered}
 use Rattle.base.specs.declared.Numbered.the-variants as N
-use Rattle.base.proofs.Passed.{Passed, passed-all}
+use Rattle.base.specs.declared.form.Form.the-variants as Stored
+use Rattle.base.proofs.Forms.{laid}
 use Rattle.shape.specs.Fields.{numbered}
-use Rattle.transforms.specs.Derive.{deriveBy, derive}
-use Rattle.transforms.specs.Single.{stepSheet, step, outcome, delivery, singleOf}
-use Rattle.writer.proofs.Back.{narrow-laid, sheet-back, sheet-bytes-back}
+use Rattle.transforms.specs.Derive.{derive}
+use Rattle.transforms.specs.Single.{step, outcome, delivery, singleOf}
+use Rattle.round_trip.proofs.Back.{sheet-back, sheet-bytes-back}
+use Rattle.derived.specs.Held.{Held, Sound}
+use Rattle.derived.proofs.Gives.{Gives}
+use Rattle.derived.proofs.Derived.{sound-formed, sound-length}
+use Rattle.derived.proofs.Written.{Written, step-gives}
 use Rattle.plan.specs.Form.{componentNumber, leftOf, rightOf}
 use Rattle.plan.specs.Walk.{slotAt, slot, sheetBytes, sheetIn, stepOn}
-use Rattle.plan.specs.Held.{Held}
-use Rattle.plan.proofs.Gives.{Gives, gives-more, gives-then, gives-checked}
-use Rattle.plan.proofs.Derived.{Sound, derived-sound, numbered-sound, sound-formed, sound-length}
 
--- what is read is what is decoded
-pub read-gives : (s : List ℕ) → Gives (λ x. Passed narrow s × (x ≡ decode narrow s)) (read narrow s)
-unfolding read
-read-gives s =
-    gives-more (λ x. x ≡ decode narrow s) (λ x. Passed narrow s × (x ≡ decode narrow s)) (read narrow s)
-    (gives-checked (λ x. x ≡ decode narrow s) (sheetChecks narrow s) (ok (decode narrow s)) refl refl)
-    (λ x e h. (passed-all narrow s (ap codeOf e), h))
-
--- Abs and Negative read the left alone
-unary-any : (c : Component) (n : ℕ) (l r : Sheet) → isUnary (familyOf c) ≡ true → derive n c l l ≡ derive n c l r
-unfolding derive
-unary-any c n l r = go (familyOf c)
-  where
-    go : (f : Family) → isUnary f ≡ true → deriveBy n c f l l ≡ deriveBy n c f l r
-    go Fam.Unary e = refl
-    go Fam.Pair e = absurd (subst T (sym e) tt)
-    go Fam.Copy e = absurd (subst T (sym e) tt)
-
--- ---- the bytes that a component derives of its operands' bytes
-
-module _ (c : Component) (left right : List ℕ) where
-  abbrev Deriving : Sheet → Type 0
-  Deriving s = (derive (narrow .categoryLimit) c (decode narrow left) (decode narrow right) ≡ ok s) × Sound s
-
-  -- they are those of the derived sheet
-  record Written (k : ℕ) (vs : List ℕ) : Type 0 where
-    sheet : Sheet
-    derived : derive (narrow .categoryLimit) c (decode narrow left) (decode narrow right) ≡ ok sheet
-    sound : Sound (numbered (familyOf c) k sheet)
-    bytes : vs ≡ encode narrow (numbered (familyOf c) k sheet)
-
-  module _ (p : Held (decode narrow left)) (q : Held (decode narrow right)) where
-    -- behind the left sheet, l
-    abbrev behind : Sheet → Result Sheet
-    behind l = cond (isUnary (familyOf c)) (derive (narrow .categoryLimit) c l l) (andThen (read narrow right) (λ r. derive (narrow .categoryLimit) c l r))
-
-    behind-gives : Gives Deriving (behind (decode narrow left))
-    behind-gives = go (isUnary (familyOf c)) refl
-      where
-        go : (t : Bool) → isUnary (familyOf c) ≡ t
-            → Gives Deriving (cond t (derive (narrow .categoryLimit) c (decode narrow left) (decode narrow left)) (andThen (read narrow right) (λ r. derive (narrow .categoryLimit) c (decode narrow left) r)))
-        go true e =
-            let l = decode narrow left in
-            gives-more Sound Deriving (derive (narrow .categoryLimit) c l l) (derived-sound c l l p p) (λ s d f. (sym (unary-any c (narrow .categoryLimit) l (decode narrow right) e) ∙ d, f))
-        go false e =
-            let l = decode narrow left in
-            let r = decode narrow right in
-            gives-then (λ x. Passed narrow right × (x ≡ r)) Deriving (read narrow right) _ (read-gives right)
-            (λ x h.
-            subst (λ (y : Sheet). Gives Deriving (derive (narrow .categoryLimit) c l y)) (sym (h .1))
-            (gives-more Sound Deriving (derive (narrow .categoryLimit) c l r) (derived-sound c l r p q) (λ s d f. (d, f))))
-
-    sheet-gives : Gives Deriving (stepSheet narrow c left right)
-    unfolding stepSheet
-    sheet-gives =
-        gives-then (λ x. Passed narrow left × (x ≡ decode narrow left)) Deriving (read narrow left) _ (read-gives left)
-        (λ x h. subst (λ (l : Sheet). Gives Deriving (behind l)) (sym (h .1)) behind-gives)
-
-    step-gives : (k : ℕ) → k < 2 ^ 32 → Gives (Written k) (step narrow c k left right)
-    unfolding step
-    step-gives k h =
-        gives-then Deriving (Written k) (stepSheet narrow c left right) _ sheet-gives
-        (λ s d. record { sheet = s; derived = d .0; sound = numbered-sound (familyOf c) k s h (d .1); bytes = refl })
+narrow-laid : Laid narrow
+narrow-laid = laid Stored.Narrow
 
 -- ---- what a call delivers
 
@@ -141,14 +77,14 @@ unfolding sheetIn
 sheet-same n j x y e h = ap (sheetBytes narrow) (slot-same n j x y e h)
 
 -- a sheet that stands at its slot's start is the slot's
-pub sheet-stands : (k : ℕ) (s : Sheet) (front rest : List ℕ) → Sound s → length front ≡ slotAt narrow k
+pub sheet-stands : (k : ℕ) (s : Sheet) (front rest : List ℕ) → Sound narrow s → length front ≡ slotAt narrow k
     → decode narrow (sheetIn narrow k (front ++ (encode narrow s ++ rest))) ≡ s
 unfolding sheetIn
 sheet-stands k s front rest p l =
     let vs = encode narrow s in
-    let f = sound-formed s p in
+    let f = sound-formed narrow-laid s p in
     let n = longest narrow - length vs in
-    let size : longest narrow ≡ length vs + n = omega (arith, sound-length s p) in
+    let size : longest narrow ≡ length vs + n = omega (arith, sound-length narrow-laid s p) in
     let cut : slot narrow k (front ++ (vs ++ rest)) ≡ vs ++ take n rest =
     ap (take (longest narrow)) (drop-at front (vs ++ rest) (slotAt narrow k) l) ∙ ap (λ (m : ℕ). take m (vs ++ rest)) size ∙ take-append-add vs rest n in
     ap (λ (t : List ℕ). decode narrow (sheetBytes narrow t)) cut
@@ -172,12 +108,12 @@ pub record Derives (p : List ℕ) (k : ℕ) (x y : List ℕ) : Type 0 where
 
 pub record Stepped (p : List ℕ) (k : ℕ) (work after : List ℕ) : Type 0 where
   pub derives : Derives p k work after
-  pub held : Held (sheetAt k after)
+  pub held : Held narrow (sheetAt k after)
   pub before : take (slotAt narrow k) after ≡ take (slotAt narrow k) work
   pub size : length after ≡ length work
 
 module _ (p : List ℕ) (k : ℕ) (work : List ℕ) (small : k < 2 ^ 32) (room : slotAt narrow k ≤ length work)
-    (l : Held (sheetAt (leftOf p k) work)) (r : Held (sheetAt (rightOf p k) work)) where
+    (l : Held narrow (sheetAt (leftOf p k) work)) (r : Held narrow (sheetAt (rightOf p k) work)) where
   abbrev left : List ℕ
   left = sheetIn narrow (leftOf p k) work
 
@@ -190,7 +126,7 @@ module _ (p : List ℕ) (k : ℕ) (work : List ℕ) (small : k < 2 ^ 32) (room :
   abbrev out : List ℕ
   out = drop (slotAt narrow k) work
 
-  single-stepped : (c : Component) → componentOf (componentNumber p k) ≡ N.Is c → (bytes : List ℕ) → Delivered (Written c left right k) out bytes
+  single-stepped : (c : Component) → componentOf (componentNumber p k) ≡ N.Is c → (bytes : List ℕ) → Delivered (Written narrow-laid c left right k) out bytes
       → Stepped p k work (front ++ bytes)
   single-stepped c e bytes d =
       let w = d .made in
@@ -202,7 +138,7 @@ module _ (p : List ℕ) (k : ℕ) (work : List ℕ) (small : k < 2 ^ 32) (room :
       let long = ap length (d .stand) ∙ length-append (d .bytes) rest in
       record {
         derives = record { component = c; listed = e; sheet = w .sheet; derived = w .derived; is = here };
-        held = subst Held (sym here) (w .sound .held);
+        held = subst (Held narrow) (sym here) (w .sound .held);
         before = take-at front bytes (slotAt narrow k) n;
         size = omega (arith, d .fits, length-append front bytes, length-drop (length (d .bytes)) out, length-drop (slotAt narrow k) work);
       }
@@ -212,7 +148,7 @@ module _ (p : List ℕ) (k : ℕ) (work : List ℕ) (small : k < 2 ^ 32) (room :
   unfolding singleOf
   by-component N.Unlisted h e = absurd (omega arith)
   by-component (N.Is c) h e =
-      single-stepped c h _ (delivery-made (Written c left right k) (step narrow c k left right) out (step-gives c left right l r k small) e)
+      single-stepped c h _ (delivery-made (Written narrow-laid c left right k) (step narrow c k left right) out (step-gives narrow-laid c left right l r k small) e)
 
   pub step-made : stepOn narrow p k work .code ≡ 0 → Stepped p k work (stepOn narrow p k work .bytes)
   unfolding stepOn

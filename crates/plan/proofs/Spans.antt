@@ -18,11 +18,12 @@ use Rattle.numbers.proofs.Results.{never, then-ok-inv}
 use Rattle.ends.specs.Ends.{spanOf, unknown, both, present, fromTwo, fromOne, addEnds, negEnds, absLower, absUpper, absEnds, corners, mulCorners, mulEnds, divCorners, divBy, divEnds, modEnds}
 use Rattle.ends.proofs.Rules.{div-above, div-below}
 use Rattle.categories.specs.Categories.{remainder}
+use Rattle.derived.proofs.Answers.{ok-same, some-same}
 use Rattle.plan.specs.Demand.{AtLeast, AtMost, InSpan, SpanOffZero}
 use Rattle.plan.specs.Within.{Within}
 use Rattle.plan.specs.Asks.{LowerAboveZero}
 use Rattle.plan.proofs.Order.{≤-refl, add-mono, neg-mono, lt-one, lt-minus}
-use Rattle.plan.proofs.Answers.{ok-same, some-same, nothing, both-inv, present-is, end-is, low-end, high-end, no-low, no-high, from-both}
+use Rattle.plan.proofs.Answers.{nothing, both-inv, present-is, end-is, low-end, high-end, no-low, no-high, from-both}
 use Rattle.plan.proofs.Products.{mul-inside}
 use Rattle.plan.proofs.Quotients.{Quotient, quot-above, quot-below}
 use Rattle.plan.proofs.Ends.{abs-inside, mod-inside}

@@ -18,11 +18,11 @@ use Rattle.shape.specs.Orders.{unaryChecks, pairChecks, boundChecks, copyChecks
 use Rattle.shape.specs.Fields.{pairFields, copyFields, pairSheet, copySheet, unarySheet}
 use Rattle.transforms.specs.Natures.{binaryNature, unaryNature}
 use Rattle.transforms.specs.Derive.{deriveUnary, derivePair, deriveCopy, derive}
+use Rattle.derived.proofs.Answers.{ok-same, some-same, checked-rest}
 use Rattle.plan.specs.Exact.{Results, exact}
 use Rattle.plan.specs.Demand.{ColumnsMatch, Suits, OffZero}
 use Rattle.plan.specs.Asks.{Asks}
 use Rattle.plan.specs.Good.{Fitting, Spread, Admitted, Good, stepOf}
-use Rattle.plan.proofs.Answers.{ok-same, some-same, checked-rest}
 use Rattle.plan.proofs.Natures.{binary-derived, unary-derived}
 use Rattle.plan.proofs.Nodes.{Reaches, Serves, off-any, serves-reaches, serves-spread, columns-are, good-step}
 use Rattle.plan.proofs.Passed.{bounds-passed, modulo-spread, modulo-says, power-spread, power-says, log-never}

@@ -5,31 +5,35 @@
 --     leaves-more, leaves-refused, leaves-none            the leaves from node k on
 --     walk-more, walk-refused, walk-none                  the steps from node k on
 --     plan-malformed, plan-short                          1 and 27
---     plan-stopped, plan-stepped                          what the leaves say, and then the steps
+--     plan-begun                                          what the leaves say: a refusal, or the steps are next
+--     step-lent, left-joins                               what a step is lent: the category stores, or it does not use them
 -- Assumes nothing.
 use mathlib.Core.Path.{_≡_, refl, sym, ap, _∙_}
-use mathlib.Core.Bool.{true, false}
+use mathlib.Core.Bool.{Bool, true, false, cond}
 use mathlib.Core.List.{List, _++_}
 use Prim.Native.Nat.{ℕ, suc, _+_, _-_, _≤_, _<_}
 use native.Mathlib.Omega.{arith}
+use lib.IntN.{ℤ}
 use lib.ListN.{length, take, drop, take-append-drop}
 use borrow.Author.Tests.{ne-eqb, lt-ltb, le-ltb}
 use Rattle.bytes.specs.declared.Put.{Put}
 use Rattle.bytes.specs.declared.Put.the-variants as U
 use Rattle.utilities.specs.Lists.{listFrom}
-use Rattle.base.specs.Form.{narrow}
+use Rattle.base.specs.Form.{Form, narrow, entriesAt, longest}
 use Rattle.base.specs.Checks.{read}
 use Rattle.base.specs.Code.{codeOf}
 use Rattle.base.specs.Components.{componentOf}
 use Rattle.base.specs.declared.Component.{Component}
 use Rattle.base.specs.declared.Numbered.the-variants as N
 use Rattle.base.proofs.Passed.{read-ok}
+use Rattle.base.proofs.Flags.{and-both}
+use Rattle.writer.specs.Written.{endsRoom, listsRoom}
 use Rattle.transforms.specs.Single.{Outcome, outcome, step, delivery, singleOf}
-use Rattle.transforms.specs.Code.{given}
+use Rattle.transforms.specs.Code.{given, holdsLists, joinsLists, Buffers, Lent}
 use Rattle.transforms.proofs.Delivered.{refused-code}
 use Rattle.plan.specs.Form.{noNode, nodeCount, leafCount, componentNumber, leftOf, rightOf, planFails}
 use Rattle.plan.specs.Walk.{slotAt, sheetIn, stepOn, walk, leavesThen, leafNodes, stepNodes, plan}
-use Rattle.plan.specs.Code.{Steppable, Walkable, LeavesSay, putCode, walked, unlessStopped}
+use Rattle.plan.specs.Code.{Steppable, Walkable, Rooms, Large, LeavesSay, Begun, putCode, nodesFrom, walked, unlessStopped}
 use Rattle.plan.specs.declared.Walked.{Walked}
 use Rattle.plan.specs.declared.Walked.the-variants as W
 use Rattle.plan.proofs.FormLaws.{planned, step-of}
@@ -74,6 +78,25 @@ steppable {p} {work} k w later within =
     let f = planned p (w .formed) in
     let o = f .earlier k later within in
     record { step = step-of p k (w .formed) later within; few = omega arith; left = o .0; right = o .1; room = omega (arith, w .room) }
+
+-- the scratch has room for the sheet of a range, and where whole categories meet for any
+sheet-fits :
+    (F : Form) (b : Bool) {size : ℕ} → entriesAt F (F .groupLimit) + endsRoom F ≤ size → (b ≡ true → longest F ≤ size)
+    → entriesAt F (F .groupLimit) + cond b (listsRoom F) (endsRoom F) ≤ size
+sheet-fits F true h l = let any = l refl in omega arith
+sheet-fits F false h l = h
+
+module _ {F : Form} {left right hints first second scratch : List ℕ} {us bs store : List ℤ} where
+  pub step-lent : Rooms F first second scratch → (joinsLists F left right ≡ true → Large F us bs store hints first second scratch)
+      → Buffers F left right first second scratch × Lent F left right us bs store hints first second
+  step-lent rooms large = (
+    record { first-room = rooms .first-room; second-room = rooms .second-room; sheet-room = sheet-fits F (joinsLists F left right) (rooms .sheet-room) (λ e. large e .sheet-room) },
+    record { stores = λ e. large e .stores; arrays = λ e. large e .arrays },
+  )
+
+-- left alone decides where it holds no lists
+pub left-joins : (F : Form) (left right : List ℕ) → joinsLists F left right ≡ true → holdsLists F left ≡ true
+left-joins F left right e = and-both (holdsLists F left) (holdsLists F right) e .0
 
 -- ---- n nodes, from node k on
 
@@ -135,16 +158,21 @@ module _ (p work : List ℕ) where
   unfolding plan
   plan-walked e h = rw (e, le-ltb (length work) (slotAt narrow (nodeCount p)) h)
 
-module _ (p work : List ℕ) (w : Walkable p work) {r : Walked} (s : LeavesSay p work r) where
+module _ (p work : List ℕ) (w : Walkable p work) where
   abbrev steps : Outcome
   steps = walk narrow p (stepNodes narrow p) work
 
   -- the leaves say that r stops the call, or that it goes on
-  by-leaves : unlessStopped r work steps ≡ plan narrow p work
-  by-leaves = sym (s .says steps) ∙ plan-walked p work (w .formed) (w .room)
+  by-leaves : {r : Walked} → LeavesSay p work r → unlessStopped r work steps ≡ plan narrow p work
+  by-leaves s = sym (s .says steps) ∙ plan-walked p work (w .formed) (w .room)
 
-  pub plan-stopped : {k node : ℕ} → r ≡ W.Refused k node → walked r work ≡ plan narrow p work
-  plan-stopped e = ap (λ (r : Walked). walked r work) e ∙ sym (ap (λ (r : Walked). unlessStopped r work steps) e) ∙ by-leaves
+  pub plan-begun : (r : Walked) → LeavesSay p work r → (walked p r work ≡ plan narrow p work) × Begun p work r
+  plan-begun (W.Accepted n) s = absurd (s .next)
+  plan-begun (W.Refused k node) s = (by-leaves s, s .next)
+  plan-begun (W.Next k) s = (ap (λ (n : ℕ). walk narrow p (nodesFrom p n) work) (s .next) ∙ by-leaves s, (w, s .next))
 
-  pub plan-stepped : {n : ℕ} → r ≡ W.Accepted n → walk narrow p (stepNodes narrow p) work ≡ plan narrow p work
-  plan-stepped e = sym (ap (λ (r : Walked). unlessStopped r work steps) e) ∙ by-leaves
+  -- a plan of leaves alone
+  pub plan-done : {k : ℕ} → LeavesSay p work (W.Next k) → k ≡ nodeCount p → outcome 0 k work ≡ plan narrow p work
+  plan-done {k} s e =
+      let none = walk-none p (nodeCount p) k work (omega arith) in
+      ap (λ (n : ℕ). outcome 0 n work) e ∙ sym none ∙ plan-begun (W.Next k) s .0

@@ -5,6 +5,5 @@ pub mod Demand
 pub mod Within
 pub mod Asks
 pub mod Good
-pub mod Held
 pub mod Code
 pub mod Shown

@@ -47,7 +47,7 @@ returns c =
     let h : l .k < leafCount p = omega arith in
     record {
       says = λ rest. l .inv .1 rest ∙ leaves-refused (leafCount p) (l .k) (now (start .args .work)) rest h (call .check-leaf .ensures) (c .if1 .taken);
-      small = omega arith;
+      next = omega arith;
     }
 
 loop-again : tie.Need-loop-again Inv-loop μ-loop
@@ -66,7 +66,7 @@ returns-2 c =
     let p = now (start .args .plan) in
     let f = planned p (start .pre .formed) in
     let h : leafCount p ≤ l .k = omega arith in
-    record { says = λ rest. l .inv .1 rest ∙ leaves-none (leafCount p) (l .k) (now (start .args .work)) rest h; small = omega arith }
+    record { says = λ rest. l .inv .1 rest ∙ leaves-none (leafCount p) (l .k) (now (start .args .work)) rest h; next = omega arith }
 
 pub check-leaves-spec : {M : Type 1} → statement M
 check-leaves-spec =

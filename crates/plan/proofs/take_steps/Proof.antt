@@ -1,91 +1,152 @@
--- `plan::take_steps` meets its contract. The loop's invariant: the steps from k on, on the work buffer as it is, answer what all of them answer on the work
--- buffer as it was. Assumes nothing.
-use mathlib.Core.Path.{_≡_, refl, sym, ap, _∙_}
+-- `plan::take_steps` meets its contract. The loop's invariant: the steps from k on, on the work buffer as it is, answer what those from `from` on answer on the
+-- work buffer as it was; and what is lent keeps its length. Assumes nothing.
+use mathlib.Core.Path.{_≡_, refl, sym, ap, subst, _∙_}
+use mathlib.Core.Bool.{true}
+use mathlib.Core.List.{List}
+use mathlib.Core.Logic.{⊎-elim}
 use Prim.Native.Nat.{ℕ, _-_, _≤_, _<_}
 use native.Mathlib.Omega.{arith}
+use lib.Dec.{T}
 use lib.ListN.{length}
 use denote.Ref.{now}
 use borrow.Author.Needs.{needs}
-use Rattle.utilities.specs.Lists.{listFrom}
+use borrow.Author.Tests.{not-true, not-false}
 use Rattle.base.specs.Form.{narrow}
 use Rattle.transforms.specs.Single.{outcome}
-use Rattle.plan.specs.Form.{nodeCount, leafCount}
-use Rattle.plan.specs.Walk.{walk, stepNodes}
-use Rattle.plan.specs.Code.{Walkable}
+use Rattle.transforms.specs.Code.{holdsLists}
+use Rattle.plan.specs.Form.{nodeCount, leafCount, leftOf}
+use Rattle.plan.specs.Walk.{walk, sheetIn}
+use Rattle.plan.specs.Code.{Walkable, Steppable, Rooms, Large, nodesFrom}
 use Rattle.plan.proofs.FormLaws.{planned}
 use Rattle.plan.proofs.Taken.{steppable, walk-more, walk-refused, walk-none}
 use Rattle.plan.proofs.take_steps.Statement.{statement}
 use Rattle.plan.proofs.take_steps.Tie as tie
 
 abbrev Inv-loop : tie.InvT-loop
-Inv-loop plan work₀ nodes k₀ work k =
+Inv-loop plan from lent work₀ first₀ second₀ us₀ bs₀ store₀ hints₀ scratch₀ nodes k₀ work first second us bs store hints scratch k =
     (leafCount plan ≤ k)
     × (k ≤ nodeCount plan)
+    × (walk narrow plan (nodesFrom plan from) work₀ ≡ walk narrow plan (nodesFrom plan k) work)
     × (length work ≡ length work₀)
-    × (walk narrow plan (stepNodes narrow plan) work₀ ≡ walk narrow plan (listFrom (nodeCount plan - k) k (λ i. i)) work)
+    × (length first ≡ length first₀)
+    × (length second ≡ length second₀)
+    × (length us ≡ length us₀)
+    × (length bs ≡ length bs₀)
+    × (length store ≡ length store₀)
+    × (length hints ≡ length hints₀)
+    × (length scratch ≡ length scratch₀)
 
 abbrev μ-loop : tie.MeasureT-loop
-μ-loop plan work₀ nodes k₀ work k = nodeCount plan - k
+μ-loop plan from lent work₀ first₀ second₀ us₀ bs₀ store₀ hints₀ scratch₀ nodes k₀ work first second us bs store hints scratch k = nodeCount plan - k
+
+-- ---- at the loop's head
+
+module _ (t : tie.At-loop Inv-loop μ-loop) where
+  abbrev start : tie.Start Inv-loop μ-loop
+  start = t .before .before .before .before .before .before .before .before
+
+  abbrev plan : List ℕ
+  plan = now (start .args .plan)
+
+  rooms : Rooms narrow (t .loop .first) (t .loop .second) (t .loop .scratch)
+  rooms =
+      let i = t .loop .inv in
+      let b = start .pre .1 .0 in
+      record { first-room = omega arith; second-room = omega arith; sheet-room = omega arith }
+
+  large : start .args .lent ≡ true → Large narrow (t .loop .us) (t .loop .bs) (t .loop .store) (t .loop .hints) (t .loop .first) (t .loop .second) (t .loop .scratch)
+  large e =
+      let i = t .loop .inv in
+      let l = start .pre .1 .1 e in
+      let s = l .stores in
+      let a = l .arrays in
+      record {
+        stores = record { lefts = omega arith; rights = omega arith; results = omega arith; hinted = omega arith };
+        arrays = record { numbered = omega arith; valued = omega arith };
+        sheet-room = omega arith;
+      }
+
+-- ---- in a turn
+
+module _ (c : tie.In-loop Inv-loop μ-loop) where
+  abbrev head : tie.At-loop Inv-loop μ-loop
+  head = c .before
+
+  further : head .loop .k < nodeCount (plan head)
+  further = omega arith
+
+  turn : Steppable (plan head) (head .loop .k) (head .loop .work)
+  turn =
+      let i = head .loop .inv in
+      let w = start head .pre .0 .0 in
+      steppable (head .loop .k) (record { formed = w .formed; room = omega (arith, w .room) }) (i .0) further
+
+lent : (c : tie.Joined1 Inv-loop μ-loop) → let t = c .before .before in
+    holdsLists narrow (sheetIn narrow (leftOf (plan t) (t .loop .k)) (t .loop .work)) ≡ true
+    → Large narrow (t .loop .us) (t .loop .bs) (t .loop .store) (t .loop .hints) (t .loop .first) (t .loop .second) (t .loop .scratch)
+lent c h =
+    let t = c .before .before in
+    ⊎-elim (λ w. absurd (subst T (sym h ∙ sym (w .2 .ensures) ∙ w .3 .left) tt)) (λ w. large t (not-false (start t .args .lent) (w .left))) (c .if1 .came)
 
 node-count-requires : tie.Need-node-count-requires Inv-loop μ-loop
-node-count-requires c κs = let start = c .before .before in planned (now (start .args .plan)) (start .pre .formed) .sizes
-
-leaf-count-requires : tie.Need-leaf-count-requires Inv-loop μ-loop
-leaf-count-requires c κs = let start = c .before .before .before in planned (now (start .args .plan)) (start .pre .formed) .sizes
+node-count-requires c κs = let start = c .before .before .before .before .before .before in planned (now (start .args .plan)) (start .pre .0 .0 .formed) .sizes
 
 loop-holds : tie.Need-loop-holds Inv-loop μ-loop
-loop-holds c =
-    let start = c .before .before .before .before in
-    let p = now (start .args .plan) in
-    let f = planned p (start .pre .formed) in
-    let e = c .leaf-count .ensures in
-    (omega arith, omega arith, refl, ap (λ (k : ℕ). walk narrow p (listFrom (nodeCount p - k) k (λ i. i)) (now (start .args .work))) (sym e))
+loop-holds c = (c .before .before .before .before .before .before .before .pre .0 .1, c .before .before .before .before .before .before .before .pre .0 .2, refl, refl, refl, refl, refl, refl, refl, refl, refl)
 
-step-on-requires : tie.Need-step-on-requires Inv-loop μ-loop
-step-on-requires c κs =
-    let l = c .before .before .loop in
-    let start = c .before .before .before .before .before .before .before in
-    let p = now (start .args .plan) in
-    let room : Walkable p (l .work) = record { formed = start .pre .formed; room = omega (arith, start .pre .room, l .inv .2) } in
-    steppable (l .k) room (l .inv .0) (omega arith)
-
-same-length : tie.Need-same-length Inv-loop μ-loop
-same-length c =
-    let done = c .before .before .before .before in
-    done .step-on .kept .1 .1 .0 ∙ done .before .before .before .loop .inv .2
+may-use-stores-requires : tie.Need-may-use-stores-requires Inv-loop μ-loop
+may-use-stores-requires c κs = turn (c .before .before)
 
 returns : tie.Need-returns Inv-loop μ-loop
 returns c =
-    let done = c .before .before .before .before in
-    let l = done .before .before .before .loop in
-    let start = done .before .before .before .before .before .before .before .before in
-    let p = now (start .args .plan) in
-    let f = planned p (start .pre .formed) in
-    let h : l .k < nodeCount p = omega arith in
-    (sym (l .inv .3 ∙ walk-refused p (nodeCount p) (l .k) (l .work) h (done .step-on .result) _ (done .step-on .ensures) (c .before .code-in .ensures) (c .if1 .taken)), omega arith)
+    let i = c .before .before .before .before .before .loop .inv in
+    (sym (i .2), (not-true _ (c .before .before .before .if1 .taken), i .0, i .1))
 
-loop-again : tie.Need-loop-again Inv-loop μ-loop
-loop-again c =
-    let done = c .before .before .before .before in
-    let l = done .before .before .before .loop in
-    let start = done .before .before .before .before .before .before .before .before in
-    let p = now (start .args .plan) in
-    let h : l .k < nodeCount p = omega arith in (
-      omega arith,
-      omega arith,
-      done .step-on .kept .1 .1 .0 ∙ l .inv .2,
-      l .inv .3 ∙ walk-more p (nodeCount p) (l .k) (l .work) h (done .step-on .result) _ (done .step-on .ensures) (sym (c .before .code-in .ensures) ∙ c .if1 .left),
-    )
+step-on-requires : tie.Need-step-on-requires Inv-loop μ-loop
+step-on-requires c κs =
+    let j = c .before .before .before .before .before .before .before .before in
+    ((turn (j .before), rooms (j .before .before)), lent j)
 
 returns-2 : tie.Need-returns-2 Inv-loop μ-loop
 returns-2 c =
-    let l = c .before .loop in
-    let start = c .before .before .before .before .before .before in
-    let p = now (start .args .plan) in
-    let f = planned p (start .pre .formed) in
-    let e = c .before .before .before .node-count .ensures in
+    let done = c .before .before .before .before .before .before .before .before .before .before .before .before .before .before .before in
+    let i = done .before .before .before .before .before .before .before .before .before .before in
+    let l = i .before .loop in
+    let p = plan (i .before) in
+    let f = planned p (start (i .before) .pre .0 .0 .formed) in
+    let h = further i in
+    (sym (l .inv .2 ∙ walk-refused p (nodeCount p) (l .k) (l .work) h (done .step-on .result) _ (done .step-on .ensures) (c .before .code-in .ensures) (c .if3 .taken)), omega arith)
+
+loop-again : tie.Need-loop-again Inv-loop μ-loop
+loop-again c =
+    let done = c .before .before .before .before .before .before .before .before .before .before .before .before .before .before .before in
+    let i = done .before .before .before .before .before .before .before .before .before .before in
+    let l = i .before .loop in
+    let p = plan (i .before) in
+    let h = further i in
+    let kept = done .step-on .kept .1 .1 in (
+      omega arith,
+      omega arith,
+      l .inv .2 ∙ walk-more p (nodeCount p) (l .k) (l .work) h (done .step-on .result) _ (done .step-on .ensures) (sym (c .before .code-in .ensures) ∙ c .if3 .left),
+      kept .0 ∙ l .inv .3,
+      kept .1 .0 ∙ l .inv .4,
+      kept .1 .1 .0 ∙ l .inv .5,
+      kept .1 .1 .1 .0 ∙ l .inv .6,
+      kept .1 .1 .1 .1 .0 ∙ l .inv .7,
+      kept .1 .1 .1 .1 .1 .0 ∙ l .inv .8,
+      kept .1 .1 .1 .1 .1 .1 .0 ∙ l .inv .9,
+      kept .1 .1 .1 .1 .1 .1 .1 .0 ∙ l .inv .10,
+    )
+
+returns-3 : tie.Need-returns-3 Inv-loop μ-loop
+returns-3 c =
+    let t = c .before in
+    let l = t .loop in
+    let p = plan t in
+    let f = planned p (start t .pre .0 .0 .formed) in
+    let e = t .before .node-count .ensures in
     let h : nodeCount p ≤ l .k = omega arith in
-    (ap (λ (n : ℕ). outcome 0 n (l .work)) e ∙ sym (l .inv .3 ∙ walk-none p (nodeCount p) (l .k) (l .work) h), omega arith)
+    (ap (λ (n : ℕ). outcome 0 n (l .work)) e ∙ sym (l .inv .2 ∙ walk-none p (nodeCount p) (l .k) (l .work) h), omega arith)
 
 pub take-steps-spec : {M : Type 1} → statement M
 take-steps-spec =
@@ -94,14 +155,37 @@ take-steps-spec =
     Inv-loop
     μ-loop
     node-count-requires
-    leaf-count-requires
     loop-holds
+    may-use-stores-requires
+    (λ c. search needs)
+    (λ c. search needs)
+    (λ c. search needs)
+    (λ c. search needs)
+    (λ c. search needs)
+    (λ c. search needs)
+    (λ c. search needs)
+    (λ c. search needs)
+    returns
     step-on-requires
     (λ c κs. search needs)
-    same-length
-    returns
+    (λ c. search needs)
+    (λ c. search needs)
+    (λ c. search needs)
+    (λ c. search needs)
+    (λ c. search needs)
+    (λ c. search needs)
+    (λ c. search needs)
+    (λ c. search needs)
+    returns-2
     (λ c. search needs)
     (λ c. search needs)
     loop-again
     (λ c. search needs)
-    returns-2)
+    (λ c. search needs)
+    (λ c. search needs)
+    (λ c. search needs)
+    (λ c. search needs)
+    (λ c. search needs)
+    (λ c. search needs)
+    (λ c. search needs)
+    returns-3)

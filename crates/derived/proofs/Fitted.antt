@@ -19,8 +19,8 @@ use Rattle.base.specs.declared.Component.{Component}
 use Rattle.base.specs.declared.Component.the-variants as C
 use Rattle.ends.specs.Ends.{spanOf, unknown, both, present, fromTwo, fromOne, fromBoth, addEnds, subEnds, negEnds, absLower, absUpper, absEnds, corners, mulCorners, mulEnds, divCorners, divUpper, divLower, divPresent, divBy, divEnds, modEnds, endRule}
 use Rattle.ranges.specs.Ranges.{wholeRule}
-use Rattle.writer.specs.WellFormed.{Present, Whole, Double, SpanFits}
-use Rattle.plan.proofs.Gives.{Gives, gives-then, gives-either}
+use Rattle.round_trip.specs.WellFormed.{Present, Whole, Double, SpanFits}
+use Rattle.derived.proofs.Gives.{Gives, gives-then, gives-either}
 
 -- every operation gives what fits
 pub record KindFits {E : Type 0} (K : Kind E) (P : E → Type 0) : Type 0 where

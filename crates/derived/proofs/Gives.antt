@@ -10,7 +10,7 @@ use Rattle.numbers.specs.Result.{Result, ok, refused, andThen, Check, checked}
 use Rattle.base.proofs.Flags.{and-both}
 use Rattle.utilities.specs.Columns.{each, eachPair}
 use Rattle.shape.proofs.Refusals.{Numbered, head-numbered, tail-numbered}
-use Rattle.writer.specs.WellFormed.{Each}
+use Rattle.round_trip.specs.WellFormed.{Each}
 
 abbrev pub Gives : {X : Type 0} → (X → Type 0) → Result X → Type 0
 Gives P (ok x) = P x
@@ -41,12 +41,23 @@ all-counted (c ∷ cs) z =
     let some = eqb-false (c .number) 0 (head-numbered c cs z) in
     rw (lt-ltb 0 (c .number) (omega (arith, some)), all-counted cs (tail-numbered c cs z))
 
-pub gives-checked : {X : Type 0} (P : X → Type 0) (cs : List Check) (rest : Result X) → counted cs ≡ true → Gives P rest → Gives P (checked cs rest)
+-- none of them fails
+abbrev pub Passing : List Check → Type 0
+Passing cs = Each (λ c. c .fails ≡ false) cs
+
+pub gives-passed : {X : Type 0} (P : X → Type 0) (cs : List Check) (rest : Result X) → counted cs ≡ true → (Passing cs → Gives P rest) → Gives P (checked cs rest)
 unfolding checked
-gives-checked P [] rest n p = p
-gives-checked P (c ∷ cs) rest n p =
+gives-passed P [] rest n p = p tt
+gives-passed P (c ∷ cs) rest n p =
     let b = and-both (ltb 0 (c .number)) (counted cs) n in
-    gives-either P (c .fails) (refused (c .number)) (checked cs rest) (ltb-true 0 (c .number) (b .0)) (gives-checked P cs rest (b .1) p)
+    go (c .fails) refl (ltb-true 0 (c .number) (b .0)) (λ e. gives-passed P cs rest (b .1) (λ q. p (e, q)))
+  where
+    go : (t : Bool) → c .fails ≡ t → 0 < c .number → (c .fails ≡ false → Gives P (checked cs rest)) → Gives P (cond t (refused (c .number)) (checked cs rest))
+    go true e k h = k
+    go false e k h = h e
+
+pub gives-checked : {X : Type 0} (P : X → Type 0) (cs : List Check) (rest : Result X) → counted cs ≡ true → Gives P rest → Gives P (checked cs rest)
+gives-checked P cs rest n p = gives-passed P cs rest n (λ q. p)
 
 -- a rule over a list, or over two
 module _ {X Y : Type 0} (P : X → Type 0) (Q : Y → Type 0) where

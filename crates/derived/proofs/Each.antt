@@ -2,21 +2,24 @@
 use mathlib.Core.Path.{_≡_, sym, ap, _∙_}
 use mathlib.Core.Bool.{Bool, true, false, cond}
 use mathlib.Core.List.{List, [], _∷_, _++_, map}
-use Prim.Native.Nat.{ℕ, zero, suc, _+_, _≤_}
+use Prim.Native.Nat.{ℕ, zero, suc, _+_, _≤_, _<_}
 use native.Mathlib.Omega.{arith}
 use lib.ListN.{length, replicate, length-replicate}
 use Rattle.numbers.specs.Result.{Result, ok}
 use Rattle.numbers.proofs.Results.{then-ok-inv}
 use Rattle.utilities.specs.Lists.{listFrom, has, noted, firstsFrom, firsts, repeated}
 use Rattle.utilities.specs.Columns.{each, eachPair}
-use Rattle.writer.specs.WellFormed.{Each}
-use Rattle.plan.proofs.Answers.{ok-same}
+use Rattle.round_trip.specs.WellFormed.{Each}
+use Rattle.derived.proofs.Answers.{ok-same}
 
 module _ {X : Type 0} (P : X → Type 0) where
-  pub each-from : (f : ℕ → X) → ((i : ℕ) → P (f i)) → (n i : ℕ) → Each P (listFrom n i f)
+  pub each-below : (f : ℕ → X) (n i : ℕ) → ((k : ℕ) → i ≤ k → k < i + n → P (f k)) → Each P (listFrom n i f)
   unfolding listFrom
-  each-from f h zero i = tt
-  each-from f h (suc n) i = (h i, each-from f h n (i + 1))
+  each-below f zero i h = tt
+  each-below f (suc n) i h = (h i (omega arith) (omega arith), each-below f n (i + 1) (λ k low high. h k (omega arith) (omega arith)))
+
+  pub each-from : (f : ℕ → X) → ((i : ℕ) → P (f i)) → (n i : ℕ) → Each P (listFrom n i f)
+  each-from f h n i = each-below f n i (λ k low high. h k)
 
   pub each-append : (xs ys : List X) → Each P xs → Each P ys → Each P (xs ++ ys)
   each-append [] ys p q = q

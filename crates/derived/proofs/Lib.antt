@@ -1,0 +1,12 @@
+-- Answers taken apart, and what rules on lists and ends give.
+pub mod Answers
+pub mod Gives
+pub mod Each
+pub mod Fitted
+-- What passes 3 and 4 keeps to its form, and so does what is derived of it.
+pub mod Allowed
+pub mod Decoded
+pub mod Made
+pub mod Derived
+pub mod Encoded
+pub mod Written

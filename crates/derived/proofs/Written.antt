@@ -1,0 +1,89 @@
+-- The bytes that a step gives, of operands' bytes that pass 3 and 4, for any stored form that is laid out properly.
+--     step-gives    they are those of the derived sheet, which keeps to its form
+--     step-read     and pass 3 and 4 again
+-- Assumes nothing.
+use mathlib.Core.Path.{_≡_, refl, sym, subst, _∙_}
+use mathlib.Core.Bool.{Bool, true, false, cond}
+use mathlib.Core.List.{List}
+use Prim.Native.Nat.{ℕ, _^_, _<_}
+use lib.Dec.{T}
+use Rattle.bytes.proofs.Reread.{AllBytes}
+use Rattle.numbers.specs.Result.{Result, ok, andThen}
+use Rattle.base.specs.Form.{Form, Laid}
+use Rattle.base.specs.Sheet.{Sheet}
+use Rattle.base.specs.Decode.{decode}
+use Rattle.base.specs.Encode.{encode}
+use Rattle.base.specs.Checks.{read}
+use Rattle.base.specs.Components.{familyOf, isUnary}
+use Rattle.base.specs.declared.Component.{Component}
+use Rattle.base.specs.declared.Family.{Family}
+use Rattle.base.specs.declared.Family.the-variants as Fam
+use Rattle.base.proofs.Passed.{Passed}
+use Rattle.shape.specs.Fields.{numbered}
+use Rattle.transforms.specs.Derive.{deriveBy, derive}
+use Rattle.transforms.specs.Single.{stepSheet, step}
+use Rattle.transforms.specs.Code.{Read}
+use Rattle.derived.specs.Held.{Held, Sound}
+use Rattle.derived.proofs.Gives.{Gives, gives-more, gives-then}
+use Rattle.derived.proofs.Decoded.{decoded-held, read-gives}
+use Rattle.derived.proofs.Derived.{derived-sound, numbered-sound}
+use Rattle.derived.proofs.Encoded.{encoded-read}
+
+-- Abs and Negative read the left alone
+unary-any : (c : Component) (n : ℕ) (l r : Sheet) → isUnary (familyOf c) ≡ true → derive n c l l ≡ derive n c l r
+unfolding derive
+unary-any c n l r = go (familyOf c)
+  where
+    go : (f : Family) → isUnary f ≡ true → deriveBy n c f l l ≡ deriveBy n c f l r
+    go Fam.Unary e = refl
+    go Fam.Pair e = absurd (subst T (sym e) tt)
+    go Fam.Copy e = absurd (subst T (sym e) tt)
+
+module _ {F : Form} (laid : Laid F) (c : Component) (left right : List ℕ) where
+  abbrev Deriving : Sheet → Type 0
+  Deriving s = (derive (F .categoryLimit) c (decode F left) (decode F right) ≡ ok s) × Sound F s
+
+  -- they are those of the derived sheet
+  pub record Written (k : ℕ) (vs : List ℕ) : Type 0 where
+    pub sheet : Sheet
+    pub derived : derive (F .categoryLimit) c (decode F left) (decode F right) ≡ ok sheet
+    pub sound : Sound F (numbered (familyOf c) k sheet)
+    pub bytes : vs ≡ encode F (numbered (familyOf c) k sheet)
+
+  module _ (p : Held F (decode F left)) (q : Held F (decode F right)) where
+    -- behind the left sheet, l
+    abbrev behind : Sheet → Result Sheet
+    behind l = cond (isUnary (familyOf c)) (derive (F .categoryLimit) c l l) (andThen (read F right) (λ r. derive (F .categoryLimit) c l r))
+
+    behind-gives : Gives Deriving (behind (decode F left))
+    behind-gives = go (isUnary (familyOf c)) refl
+      where
+        go : (t : Bool) → isUnary (familyOf c) ≡ t
+            → Gives Deriving (cond t (derive (F .categoryLimit) c (decode F left) (decode F left)) (andThen (read F right) (λ r. derive (F .categoryLimit) c (decode F left) r)))
+        go true e =
+            let l = decode F left in
+            gives-more (Sound F) Deriving (derive (F .categoryLimit) c l l) (derived-sound laid c l l p p) (λ s d f. (sym (unary-any c (F .categoryLimit) l (decode F right) e) ∙ d, f))
+        go false e =
+            let l = decode F left in
+            let r = decode F right in
+            gives-then (λ x. Passed F right × (x ≡ r)) Deriving (read F right) _ (read-gives F right)
+            (λ x h.
+            subst (λ (y : Sheet). Gives Deriving (derive (F .categoryLimit) c l y)) (sym (h .1))
+            (gives-more (Sound F) Deriving (derive (F .categoryLimit) c l r) (derived-sound laid c l r p q) (λ s d f. (d, f))))
+
+    sheet-gives : Gives Deriving (stepSheet F c left right)
+    unfolding stepSheet
+    sheet-gives =
+        gives-then (λ x. Passed F left × (x ≡ decode F left)) Deriving (read F left) _ (read-gives F left)
+        (λ x h. subst (λ (l : Sheet). Gives Deriving (behind l)) (sym (h .1)) behind-gives)
+
+    pub step-gives : (k : ℕ) → k < 2 ^ 32 → Gives (Written k) (step F c k left right)
+    unfolding step
+    step-gives k h =
+        gives-then Deriving (Written k) (stepSheet F c left right) _ sheet-gives
+        (λ s d. record { sheet = s; derived = d .0; sound = numbered-sound laid (familyOf c) k s h (d .1); bytes = refl })
+
+  pub step-read : AllBytes left → AllBytes right → Read F left → Read F right → (k : ℕ) → k < 2 ^ 32 → Gives (Read F) (step F c k left right)
+  step-read small small′ p q k h =
+      gives-more (Written k) (Read F) (step F c k left right) (step-gives (decoded-held laid left small p) (decoded-held laid right small′ q) k h)
+      (λ vs e w. subst (Read F) (sym (w .bytes)) (encoded-read laid (numbered (familyOf c) k (w .sheet)) (w .sound)))
