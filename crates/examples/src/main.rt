@@ -41,17 +41,17 @@ fn line_end() {
 
 // Abs and Negative do not read the right sheet: it has no byte.
 fn alone(component: u32, e: Ends) {
-    let mut left = [0u8; form::LONGEST];
-    let mut out = [0u8; form::LONGEST];
+    let mut left = [0u8; form::NARROW_LONGEST];
+    let mut out = [0u8; form::NARROW_LONGEST];
     let l = sheet::range(&mut left, e, 1);
     derive(component, show::front(&left, l), b"", &mut out);
     line_end();
 }
 
 fn pair(component: u32, e: Ends, f: Ends, columns: u8) {
-    let mut left = [0u8; form::LONGEST];
-    let mut right = [0u8; form::LONGEST];
-    let mut out = [0u8; form::LONGEST];
+    let mut left = [0u8; form::NARROW_LONGEST];
+    let mut right = [0u8; form::NARROW_LONGEST];
+    let mut out = [0u8; form::NARROW_LONGEST];
     let l = sheet::range(&mut left, e, columns);
     let r = sheet::range(&mut right, f, columns);
     derive(
@@ -65,10 +65,10 @@ fn pair(component: u32, e: Ends, f: Ends, columns: u8) {
 
 // A difference, and the negative of the sheet that it wrote.
 fn next_step(e: Ends, f: Ends) {
-    let mut left = [0u8; form::LONGEST];
-    let mut right = [0u8; form::LONGEST];
-    let mut out = [0u8; form::LONGEST];
-    let mut last = [0u8; form::LONGEST];
+    let mut left = [0u8; form::NARROW_LONGEST];
+    let mut right = [0u8; form::NARROW_LONGEST];
+    let mut out = [0u8; form::NARROW_LONGEST];
+    let mut last = [0u8; form::NARROW_LONGEST];
     let l = sheet::range(&mut left, e, 1);
     let r = sheet::range(&mut right, f, 1);
     let n = derive(
@@ -83,8 +83,8 @@ fn next_step(e: Ends, f: Ends) {
 }
 
 fn categories_alone(component: u32, a: i64, b: i64) {
-    let mut left = [0u8; form::LONGEST];
-    let mut out = [0u8; form::LONGEST];
+    let mut left = [0u8; form::NARROW_LONGEST];
+    let mut out = [0u8; form::NARROW_LONGEST];
     let l = sheet::categories(&mut left, a, b, 1, 1);
     derive(component, show::front(&left, l), b"", &mut out);
     line_end();
@@ -92,9 +92,9 @@ fn categories_alone(component: u32, a: i64, b: i64) {
 
 // A sum of two values on each side: `lists` lists on the left, one on the right.
 fn sum_of_categories(a: i64, b: i64, lists: u8, columns: u8) {
-    let mut left = [0u8; form::LONGEST];
-    let mut right = [0u8; form::LONGEST];
-    let mut out = [0u8; form::LONGEST];
+    let mut left = [0u8; form::NARROW_LONGEST];
+    let mut right = [0u8; form::NARROW_LONGEST];
+    let mut out = [0u8; form::NARROW_LONGEST];
     let l = sheet::categories(&mut left, a, b, lists, columns);
     let r = sheet::categories(&mut right, 10, 11, 1, columns);
     derive(
@@ -108,9 +108,9 @@ fn sum_of_categories(a: i64, b: i64, lists: u8, columns: u8) {
 
 // A remainder keeps the node of its left operand.
 fn node_of_modulo() {
-    let mut left = [0u8; form::LONGEST];
-    let mut right = [0u8; form::LONGEST];
-    let mut out = [0u8; form::LONGEST];
+    let mut left = [0u8; form::NARROW_LONGEST];
+    let mut right = [0u8; form::NARROW_LONGEST];
+    let mut out = [0u8; form::NARROW_LONGEST];
     let l = sheet::range(&mut left, sheet::whole(0, 1), 1);
     sheet::node(&mut left, 77);
     let r = sheet::range(&mut right, sheet::whole(3, 8), 1);
@@ -129,9 +129,9 @@ fn node_of_modulo() {
 
 // Two private operands of one dataset, with other numbers of rows.
 fn rows_of_one_dataset() {
-    let mut left = [0u8; form::LONGEST];
-    let mut right = [0u8; form::LONGEST];
-    let mut out = [0u8; form::LONGEST];
+    let mut left = [0u8; form::NARROW_LONGEST];
+    let mut right = [0u8; form::NARROW_LONGEST];
+    let mut out = [0u8; form::NARROW_LONGEST];
     let l = sheet::range(&mut left, sheet::whole(1, 2), 1);
     sheet::private(&mut left, 5);
     let r = sheet::range(&mut right, sheet::whole(10, 20), 1);

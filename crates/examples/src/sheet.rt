@@ -1,8 +1,14 @@
 // The examples' operands, in buffers of zeros of the longest sheet's length: type Int, releasable, one row, node 7.
 ghost use Prim.Native.Nat.{_≤_};
 ghost use lib.ListN.{length};
+ghost use Rattle.base.specs.Form.{narrow, longest};
 use base::Bound;
 use base::form;
+
+// The sizes behind the first, in the narrow form.
+pub const LISTS_AT: usize = form::NARROW_SIZE_WIDTH;
+
+pub const CATEGORIES_AT: usize = 2 * form::NARROW_SIZE_WIDTH;
 
 const NODE: u8 = 7;
 
@@ -17,9 +23,9 @@ pub fn whole(a: i64, c: i64) -> Ends {
 
 // The fields that every operand has; each number fits the first of its bytes.
 fn head(s: &mut [u8], nature: u8, lists: u8, columns: u8)
-    requires { ⌜ 1284 ≤ length (now s) ⌝ }
+    requires { ⌜ longest narrow ≤ length (now s) ⌝ }
 {
-    bytes::put_u8(s, form::LISTS_AT, lists);
+    bytes::put_u8(s, LISTS_AT, lists);
     bytes::put_u8(s, form::NATURE_AT, nature);
     bytes::put_u8(s, form::TYPE_AT, form::INT_TYPE);
     bytes::put_u8(s, form::RELEASABLE_AT, 1);
@@ -30,13 +36,13 @@ fn head(s: &mut [u8], nature: u8, lists: u8, columns: u8)
 }
 
 pub fn node(s: &mut [u8], n: u8)
-    requires { ⌜ 1284 ≤ length (now s) ⌝ }
+    requires { ⌜ longest narrow ≤ length (now s) ⌝ }
 {
     bytes::put_u8(s, form::NODE_AT, n);
 }
 
 fn rows(s: &mut [u8], n: u8)
-    requires { ⌜ 1284 ≤ length (now s) ⌝ }
+    requires { ⌜ longest narrow ≤ length (now s) ⌝ }
 {
     bytes::put_u8(s, form::ROWS_MARK_AT, 1);
     bytes::put_u8(s, form::ROWS_AT, n);
@@ -44,7 +50,7 @@ fn rows(s: &mut [u8], n: u8)
 
 // Not releasable, of one dataset.
 pub fn private(s: &mut [u8], n: u8)
-    requires { ⌜ 1284 ≤ length (now s) ⌝ }
+    requires { ⌜ longest narrow ≤ length (now s) ⌝ }
 {
     rows(s, n);
     bytes::put_u8(s, form::RELEASABLE_AT, 0);
@@ -54,22 +60,22 @@ pub fn private(s: &mut [u8], n: u8)
 
 // A whole range of one entry, which stands for every column; answers the sheet's length.
 pub fn range(s: &mut [u8], e: Ends, columns: u8) -> usize
-    requires { ⌜ 1284 ≤ length (now s) ⌝ }
+    requires { ⌜ longest narrow ≤ length (now s) ⌝ }
 {
     let lower = e.0;
     let upper = e.1;
     head(s, form::WHOLE_RANGE, 1, columns);
-    let next = base::put_bound(s, form::ARRAYS_AT, lower);
+    let next = base::put_bound(s, form::NARROW_ARRAYS_AT, lower);
     base::put_bound(s, next, upper)
 }
 
 // Two whole categories, in one list or in two.
 pub fn categories(s: &mut [u8], a: i64, b: i64, lists: u8, columns: u8) -> usize
-    requires { ⌜ 1284 ≤ length (now s) ⌝ }
+    requires { ⌜ longest narrow ≤ length (now s) ⌝ }
 {
     head(s, form::WHOLE_LISTS, lists, columns);
-    bytes::put_u8(s, form::CATEGORIES_AT, 2);
-    let second = bytes::put_u8(s, form::ARRAYS_AT, 0);
+    bytes::put_u8(s, CATEGORIES_AT, 2);
+    let second = bytes::put_u8(s, form::NARROW_ARRAYS_AT, 0);
     let values = bytes::put_u8(s, second, if lists == 1 { 0 } else { 1 });
     let next = bytes::put_i64(s, values, a);
     bytes::put_i64(s, next, b)

@@ -2,6 +2,7 @@
 ghost use mathlib.Core.Path.{_≡_};
 ghost use Prim.Native.Nat.{_<_};
 ghost use lib.ListN.{take};
+use crate::sheet;
 use base::form;
 use libc::STDOUT_FILENO;
 
@@ -67,7 +68,7 @@ fn end_at(s: &[u8], at: usize)
 fn entry(s: &[u8], n: usize, i: usize)
     requires { ⌜ (n < 256) × (i < n) ⌝ }
 {
-    let lower = form::ARRAYS_AT + form::END_WIDTH * i;
+    let lower = form::NARROW_ARRAYS_AT + form::END_WIDTH * i;
     io::write_all(STDOUT_FILENO, b"[");
     end_at(s, lower);
     io::write_all(STDOUT_FILENO, b", ");
@@ -76,7 +77,7 @@ fn entry(s: &[u8], n: usize, i: usize)
 }
 
 fn range(s: &[u8]) {
-    let n = count_at(s, form::LISTS_AT);
+    let n = count_at(s, sheet::LISTS_AT);
     let mut i = 0;
     while i < n {
         entry(s, n, i);
@@ -88,7 +89,7 @@ fn range(s: &[u8]) {
 fn category(s: &[u8], t: usize, i: usize, k: usize)
     requires { ⌜ (t < 256) × (i < t) ⌝ }
 {
-    let place = form::ARRAYS_AT + i;
+    let place = form::NARROW_ARRAYS_AT + i;
     if count_at(s, place) != k {
         return;
     }
@@ -97,11 +98,11 @@ fn category(s: &[u8], t: usize, i: usize, k: usize)
             io::write_all(STDOUT_FILENO, b", ");
         }
     }
-    number_at(s, form::ARRAYS_AT + t + form::VALUE_WIDTH * i);
+    number_at(s, form::NARROW_ARRAYS_AT + t + form::VALUE_WIDTH * i);
 }
 
 fn values(s: &[u8], k: usize) {
-    let t = count_at(s, form::CATEGORIES_AT);
+    let t = count_at(s, sheet::CATEGORIES_AT);
     let mut i = 0;
     while i < t {
         category(s, t, i, k);
@@ -117,7 +118,7 @@ fn list(s: &[u8], k: usize) {
 }
 
 fn categories(s: &[u8]) {
-    let n = count_at(s, form::LISTS_AT);
+    let n = count_at(s, sheet::LISTS_AT);
     let mut k = 0;
     while k < n {
         list(s, k);
