@@ -1,59 +1,81 @@
-//! The proved library behind safe functions: the only unsafe code here.
+//! The proved library behind safe functions, and for `bench against` an earlier
+//! one: the only unsafe code here.
 
-mod foreign {
-    extern "C" {
+/// The two calls of a library that exports them under these names.
+macro_rules! library {
+    ($single:literal, $plan:literal) => {
+        mod foreign {
+            extern "C" {
+                #[link_name = $single]
+                pub fn propagate_property(
+                    component: u32,
+                    node: u32,
+                    left: *const u8,
+                    left_len: usize,
+                    right: *const u8,
+                    right_len: usize,
+                    out: *mut u8,
+                    out_len: usize,
+                ) -> u64;
+
+                #[link_name = $plan]
+                pub fn propagate_properties(
+                    plan: *const u8,
+                    plan_len: usize,
+                    work: *mut u8,
+                    work_len: usize,
+                ) -> u64;
+            }
+        }
+
+        /// The code and the length written.
         pub fn propagate_property(
             component: u32,
             node: u32,
-            left: *const u8,
-            left_len: usize,
-            right: *const u8,
-            right_len: usize,
-            out: *mut u8,
-            out_len: usize,
-        ) -> u64;
+            left: &[u8],
+            right: &[u8],
+            out: &mut [u8],
+        ) -> (u32, u32) {
+            // Safety: each pair of pointer and length is a live slice, and
+            // `out` is borrowed apart from the operands.
+            let reply = unsafe {
+                foreign::propagate_property(
+                    component,
+                    node,
+                    left.as_ptr(),
+                    left.len(),
+                    right.as_ptr(),
+                    right.len(),
+                    out.as_mut_ptr(),
+                    out.len(),
+                )
+            };
+            halves(reply)
+        }
 
-        pub fn propagate_properties(
-            plan: *const u8,
-            plan_len: usize,
-            work: *mut u8,
-            work_len: usize,
-        ) -> u64;
-    }
+        /// The code, and the node count or the node.
+        pub fn propagate_properties(plan: &[u8], work: &mut [u8]) -> (u32, u32) {
+            // Safety: both pairs are live slices, and `work` is borrowed apart.
+            let reply = unsafe {
+                foreign::propagate_properties(
+                    plan.as_ptr(),
+                    plan.len(),
+                    work.as_mut_ptr(),
+                    work.len(),
+                )
+            };
+            halves(reply)
+        }
+    };
 }
 
-/// The code and the length written.
-pub fn propagate_property(
-    component: u32,
-    node: u32,
-    left: &[u8],
-    right: &[u8],
-    out: &mut [u8],
-) -> (u32, u32) {
-    // Safety: each pair of pointer and length is a live slice, and `out` is
-    // borrowed apart from the operands.
-    let reply = unsafe {
-        foreign::propagate_property(
-            component,
-            node,
-            left.as_ptr(),
-            left.len(),
-            right.as_ptr(),
-            right.len(),
-            out.as_mut_ptr(),
-            out.len(),
-        )
-    };
-    halves(reply)
-}
+library!("propagate_property", "propagate_properties");
 
-/// The code, and the node count or the node.
-pub fn propagate_properties(plan: &[u8], work: &mut [u8]) -> (u32, u32) {
-    // Safety: both pairs are live slices, and `work` is borrowed apart.
-    let reply = unsafe {
-        foreign::propagate_properties(plan.as_ptr(), plan.len(), work.as_mut_ptr(), work.len())
-    };
-    halves(reply)
+/// The library that `GATE_LIB_BEFORE` named.
+#[cfg(before)]
+pub mod before {
+    use super::halves;
+    library!("before_propagate_property", "before_propagate_properties");
 }
 
 fn halves(reply: u64) -> (u32, u32) {

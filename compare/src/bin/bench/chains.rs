@@ -246,6 +246,28 @@ fn single_calls(chain: &Request, turns: usize) -> Class {
     }
 }
 
+/// Nanoseconds of each chain, and of its leaf as a plan of its own, by each of
+/// two plan calls, which take turns.
+#[cfg(before)]
+pub fn by_two(plans: [Plan; 2], mut show: impl FnMut(String, [f64; 2])) {
+    for kind in &KINDS {
+        for nodes in NODES {
+            let trial = Trial::new(kind, nodes);
+            let ns = medians(ROUNDS, 4, |way| {
+                let (request, turns) = match way / 2 {
+                    0 => (&trial.chain, trial.turns),
+                    _ => (&trial.leaf, trial.leaf_turns),
+                };
+                walked(plans[way % 2], request, turns) * 1e9
+            });
+            show(format!("{}, plan of {nodes}", kind.name), [ns[0], ns[1]]);
+            if nodes == NODES[0] {
+                show(format!("{}, its leaf alone", kind.name), [ns[2], ns[3]]);
+            }
+        }
+    }
+}
+
 /// The longest chain of each kind, for the stack.
 pub fn longest() -> impl Iterator<Item = (&'static str, Request)> {
     let nodes = NODES[NODES.len() - 1];

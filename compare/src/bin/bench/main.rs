@@ -1,6 +1,8 @@
 //! The benchmark: the same calls, the same driver, four ways to answer them;
 //! and plans against the same single calls.
 
+#[cfg(before)]
+mod against;
 mod chains;
 mod classes;
 mod clock;
@@ -16,6 +18,8 @@ use ways::{measure, WAYS};
 const HELP: &str = "\
 bench             single calls, plans and the targets, as a Markdown report
 bench stack       the deepest stack of a call
+bench against     this library's time by an earlier one's, row by row; build
+                  with GATE_LIB_BEFORE set to the earlier one's folder
 bench only WHICH CLASS SECONDS
                   one way on one class, for a profiler; WHICH is proved, port,
                   memory or original, CLASS the number of a row from 0";
@@ -26,6 +30,7 @@ fn main() {
     match words[..] {
         [] => report(),
         ["stack"] => stack::depths(),
+        ["against"] => against(),
         ["only", which, class, seconds] => only(which, class, seconds),
         ["--help"] => println!("{HELP}"),
         _ => refuse(),
@@ -34,6 +39,17 @@ fn main() {
 
 fn refuse() -> ! {
     eprintln!("{HELP}");
+    std::process::exit(2)
+}
+
+#[cfg(before)]
+fn against() {
+    against::table()
+}
+
+#[cfg(not(before))]
+fn against() {
+    eprintln!("bench against: no earlier library was linked; set GATE_LIB_BEFORE to the folder of its libgate.a and build again");
     std::process::exit(2)
 }
 

@@ -50,6 +50,13 @@ pub fn measure(way: Way, class: &Class) -> f64 {
     }
 }
 
+/// The same of a way to answer that is no column of the table.
+#[cfg(before)]
+pub fn measure_by(by: Answer, class: &Class) -> f64 {
+    let mut out = [0u8; LONGEST];
+    timed(class, |call| answer(by, call, &mut out))
+}
+
 fn timed<R>(class: &Class, mut answer: impl FnMut(&Call) -> R) -> f64 {
     spent(class.turns, || {
         for call in &class.calls {

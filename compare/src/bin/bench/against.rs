@@ -1,0 +1,51 @@
+//! The library against an earlier one, row by row.
+
+use crate::chains;
+use crate::classes::{classes, Class};
+use crate::clock::medians;
+use crate::ways::{agree, answer, measure_by};
+use comparison::proved::{self, before};
+use oracle_list::sheet::LONGEST;
+
+/// More than the report's, since two libraries that differ little are told apart.
+const ROUNDS: usize = 61;
+
+pub fn table() {
+    println!("| ns (medians of interleaved rounds) | before | now | now / before |");
+    println!("|---|---|---|---|");
+    for class in classes() {
+        agree(&class);
+        same_answers(&class);
+        let calls = (class.calls.len() * class.turns) as f64;
+        let ways = [before::propagate_property, proved::propagate_property];
+        let taken = medians(ROUNDS, 2, |way| measure_by(ways[way], &class));
+        let ns = [taken[0], taken[1]].map(|seconds| seconds * 1e9 / calls);
+        show(class.name.to_string(), ns);
+    }
+    chains::by_two(
+        [before::propagate_properties, proved::propagate_properties],
+        show,
+    );
+}
+
+fn show(name: String, ns: [f64; 2]) {
+    println!(
+        "| {name} | {:.1} | {:.1} | {:.3} |",
+        ns[0],
+        ns[1],
+        ns[1] / ns[0]
+    );
+}
+
+fn same_answers(class: &Class) {
+    for call in &class.calls {
+        let mut outs = [[0u8; LONGEST]; 2];
+        let [first, second] = &mut outs;
+        let old = answer(before::propagate_property, call, first);
+        let new = answer(proved::propagate_property, call, second);
+        assert!(
+            old == new && outs[0] == outs[1],
+            "answers differ on {call:?}"
+        );
+    }
+}
