@@ -12,7 +12,7 @@ use lib.Dec.{eqb}
 use lib.Bits.{bitAnd, bitOr, or-add-and, and-le-l, and-le-r, and-comm, and-mask, and-high}
 use borrow.Author.Tests.{eq-eqb, ne-eqb, eqb-true, eqb-false}
 
-or-zero : (a b : ℕ) → eqb (bitOr a b) 0 ≡ (eqb a 0 && eqb b 0)
+pub or-zero : (a b : ℕ) → eqb (bitOr a b) 0 ≡ (eqb a 0 && eqb b 0)
 or-zero a b = go (eqb a 0) refl (eqb b 0) refl (bitOr a b) (bitAnd a b) (or-add-and a b) (and-le-l a b) (and-le-r a b)
   where
     go : (t : Bool) → eqb a 0 ≡ t → (u : Bool) → eqb b 0 ≡ u → (o n : ℕ) → o + n ≡ a + b → n ≤ a → n ≤ b → eqb o 0 ≡ (t && u)

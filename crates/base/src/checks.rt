@@ -73,13 +73,12 @@ fn bytes_permitted(f: Form, s: &[u8]) -> bool
         & gap_permitted(f, s)
 }
 
-// A mark of 1, or a mark of 0 with 64 zero bits, by their places in 01.
-fn field_permitted(f: Form, s: &[u8], mark: usize, at: usize) -> bool
+// 0 where a field's mark is permitted, with its 64 bits, by their places in 01: words are gathered by `|`, without a branch.
+fn field_word(f: Form, s: &[u8], mark: usize, at: usize) -> u64
     requires { ⌜ (formOf f .arraysAt ≤ length (now s)) × (mark < fieldsEnd) × (at + 8 ≤ fieldsEnd) ⌝ }
-    ensures { λ r. ⌜ r ≡ fieldPermitted (formOf f) (now (s .entry)) mark at ⌝ }
+    ensures { λ r. ⌜ eqb r 0 ≡ fieldPermitted (formOf f) (now (s .entry)) mark at ⌝ }
 {
-    let m = crate::byte_in(f, s, mark);
-    (m == 1) | ((m == 0) & (crate::u64_in(f, s, at) == 0))
+    spans::end_word(crate::byte_in(f, s, mark), crate::u64_in(f, s, at))
 }
 
 fn columns_permitted(f: Form, s: &[u8]) -> bool
@@ -95,12 +94,12 @@ fn values_permitted(f: Form, s: &[u8]) -> bool
     requires { ⌜ formOf f .arraysAt ≤ length (now s) ⌝ }
     ensures { λ r. ⌜ r ≡ valuesPermitted (formOf f) (now (s .entry)) ⌝ }
 {
-    field_permitted(f, s, form::ROWS_MARK_AT, form::ROWS_AT)
-        & field_permitted(f, s, form::COLUMNS_MARK_AT, form::COLUMNS_AT)
-        & columns_permitted(f, s)
-        & field_permitted(f, s, form::DATASET_MARK_AT, form::DATASET_AT)
-        & field_permitted(f, s, form::DIMENSIONALITY_MARK_AT, form::DIMENSIONALITY_AT)
-        & field_permitted(f, s, form::SAMPLE_MARK_AT, form::SAMPLE_AT)
+    let bad = field_word(f, s, form::ROWS_MARK_AT, form::ROWS_AT)
+        | field_word(f, s, form::COLUMNS_MARK_AT, form::COLUMNS_AT)
+        | field_word(f, s, form::DATASET_MARK_AT, form::DATASET_AT)
+        | field_word(f, s, form::DIMENSIONALITY_MARK_AT, form::DIMENSIONALITY_AT)
+        | field_word(f, s, form::SAMPLE_MARK_AT, form::SAMPLE_AT);
+    (bad == 0) & columns_permitted(f, s)
 }
 
 // ---- 4, the groups

@@ -24,7 +24,7 @@ pub struct Faults {
 // ---- 4, an end
 
 // 0 for a mark of 1, and for a mark of 0 with 64 zero bits: words are gathered by `|`, without a branch.
-fn end_word(mark: u8, bits: u64) -> u64
+pub fn end_word(mark: u8, bits: u64) -> u64
     ensures { λ r. ⌜ eqb r 0 ≡ (eqb mark 1 || (eqb mark 0 && eqb bits 0)) ⌝ }
 {
     let m = mark as u64;

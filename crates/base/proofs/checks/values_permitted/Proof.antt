@@ -1,20 +1,27 @@
 -- `base::checks::values_permitted` meets its contract. Assumes nothing.
 use borrow.Author.Needs.{needs}
 use Rattle.base.specs.Checks.{valuesPermitted}
+use Rattle.base.proofs.Flags.{last-second}
+use Rattle.base.proofs.Words.{or-zero}
 use Rattle.base.proofs.checks.values_permitted.Statement.{statement}
 use Rattle.base.proofs.checks.values_permitted.Tie as tie
 
 returns : tie.Need-returns
 unfolding valuesPermitted
 returns c =
-    let b = c .before .before .before in
+    let d = c .before .before .before in
     rw (
-      b .before .before .field-permitted .ensures,
-      b .before .field-permitted2 .ensures,
-      b .columns-permitted .ensures,
-      c .before .before .field-permitted3 .ensures,
-      c .before .field-permitted4 .ensures,
-      c .field-permitted5 .ensures,
+      or-zero,
+      or-zero,
+      or-zero,
+      or-zero,
+      last-second (c .columns-permitted .result),
+      d .before .before .field-word .ensures,
+      d .before .field-word2 .ensures,
+      d .field-word3 .ensures,
+      c .before .before .field-word4 .ensures,
+      c .before .field-word5 .ensures,
+      c .columns-permitted .ensures,
     )
 
 pub values-permitted-spec : {M : Type 1} → statement M
