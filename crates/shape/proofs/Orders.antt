@@ -1,19 +1,22 @@
 -- The lists of checks, part by part. Assumes nothing.
-use mathlib.Core.Path.{_≡_, refl, sym, ap, ap₂, _∙_}
+use mathlib.Core.Path.{_≡_, refl, sym}
 use mathlib.Core.Bool.{Bool, true, false, cond, not, _&&_}
 use mathlib.Core.List.{List, [], _∷_, _++_}
 use Prim.Native.Nat.{ℕ}
 use lib.Dec.{eqb}
 use Rattle.numbers.specs.Result.{Check, check, firstFailing}
 use Rattle.utilities.specs.Lists.{every}
-use Rattle.base.specs.Form.{floatType, intType}
+use Rattle.base.specs.Form.{Form, floatType, intType}
 use Rattle.base.specs.Sheet.{Fields, Sheet}
+use Rattle.base.specs.Decode.{groupsIn, decode}
+use Rattle.base.specs.Code.{headFields}
+use Rattle.base.specs.declared.Head.{Head}
 use Rattle.base.specs.declared.Component.{Component}
 use Rattle.base.specs.declared.Component.the-variants as C
 use Rattle.shape.specs.Shape.{bothPrivate, sameGroups, columnsAbsent}
 use Rattle.shape.specs.Orders.{operandChecks, unaryChecks, groupsClash, pairChecks, bothOf, boundChecks, copyChecks, lastChecks}
-use Rattle.shape.specs.Parts.{first, next, operandsCode, only, shapeChecks}
-use Rattle.shape.proofs.Refusals.{Numbered, first-append}
+use Rattle.shape.specs.Parts.{Operand, first, next, operandsCode, only, shapeChecks}
+use Rattle.shape.proofs.Refusals.{Numbered, next-nothing, first-append}
 
 -- ---- no check has the number 0
 
@@ -80,37 +83,45 @@ module _ (l r : Sheet) where
 -- ---- the code of a list, by its parts
 
 -- 6 and 7 in front of other checks
-module _ (l r : Sheet) (cs : List Check) where
-  operands-first : operandsCode (l .fields) (r .fields) (firstFailing cs) ≡ firstFailing (operandChecks (l .fields) ++ operandChecks (r .fields) ++ cs)
-  operands-first =
-      sym
-      (first-append (operandChecks (l .fields)) (operandChecks (r .fields) ++ cs) (operand-numbered (l .fields))
-      ∙ ap (next (firstFailing (operandChecks (l .fields)))) (first-append (operandChecks (r .fields)) cs (operand-numbered (r .fields))))
+operands-first : (x y : Fields) (cs : List Check) → next (operandsCode x y 0) (firstFailing cs) ≡ firstFailing (operandChecks x ++ operandChecks y ++ cs)
+operands-first x y cs =
+    let us = operandChecks x in
+    let vs = operandChecks y in
+    rw (next-nothing (firstFailing vs), ← first-append us vs (operand-numbered x))
+    (sym (first-append (us ++ vs) cs (join-numbered us vs (operand-numbered x) (operand-numbered y))))
 
--- x and y are the fields of l and r, under another name
-module _ (l r : Sheet) {x y : Fields} (p : x ≡ l .fields) (q : y ≡ r .fields) where
-  pub pair-is :
-      operandsCode x y (first 8 (bothPrivate x y && not (sameGroups (l .groups) (r .groups))) (firstFailing (shapeChecks (only x) (only y))))
-      ≡ firstFailing (pairChecks l r)
-  unfolding firstFailing
-  pair-is =
-      ap₂ (λ (x y : Fields). operandsCode x y (first 8 (bothPrivate x y && not (sameGroups (l .groups) (r .groups))) (firstFailing (shapeChecks (only x) (only y))))) p q
-      ∙ operands-first l r (check 8 (groupsClash l r) ∷ shapeChecks l r)
+-- the heads are those of the operands' bytes
+module _ {F : Form} {s t : List ℕ} {a b : Head} (p : Operand F s a) (q : Operand F t b) where
+  pub last-is :
+      first 8 (bothPrivate (headFields a) (headFields b) && not (sameGroups (groupsIn F s) (groupsIn F t))) 0 ≡ firstFailing (lastChecks (decode F s) (decode F t))
+  unfolding firstFailing decode
+  last-is = rw (← p .head, ← q .head)
 
-  pub last-is : first 8 (bothPrivate x y && not (sameGroups (l .groups) (r .groups))) 0 ≡ firstFailing (lastChecks l r)
-  unfolding firstFailing
-  last-is = ap₂ (λ (x y : Fields). first 8 (bothPrivate x y && not (sameGroups (l .groups) (r .groups))) 0) p q
+  -- k is what 6 and 7 say
+  module _ {k : ℕ} (e : k ≡ operandsCode (headFields a) (headFields b) 0) where
+    pub pair-is :
+        next k
+        (first 8 (bothPrivate (headFields a) (headFields b) && not (sameGroups (groupsIn F s) (groupsIn F t)))
+        (firstFailing (shapeChecks (only (headFields a)) (only (headFields b)))))
+        ≡ firstFailing (pairChecks (decode F s) (decode F t))
+    unfolding firstFailing decode
+    pair-is =
+        let l = decode F s in
+        let r = decode F t in
+        rw (e, ← p .head, ← q .head) (rw (← p .head, ← q .head) at (operands-first (l .fields) (r .fields) (check 8 (groupsClash l r) ∷ shapeChecks l r)))
 
-  pub copy-is :
-      (c : Component)
-      → operandsCode x y (next (firstFailing (boundChecks c l r)) (first 11 (columnsAbsent x) 0)) ≡ firstFailing (copyChecks c l r)
-  unfolding firstFailing
-  copy-is c =
-      let columns = check 11 (columnsAbsent (l .fields)) ∷ [] in
-      let bounds = boundChecks c l r in
-      ap₂ (λ (x y : Fields). operandsCode x y (next (firstFailing bounds) (first 11 (columnsAbsent x) 0))) p q
-      ∙ ap (operandsCode (l .fields) (r .fields)) (sym (first-append bounds columns (bounds-numbered l r c)))
-      ∙ operands-first l r (bounds ++ columns)
+    -- and m what 14 to 16 say
+    pub copy-is :
+        (c : Component) {m : ℕ} → m ≡ firstFailing (boundChecks c (decode F s) (decode F t))
+        → next k (next m (first 11 (columnsAbsent (headFields a)) 0)) ≡ firstFailing (copyChecks c (decode F s) (decode F t))
+    unfolding firstFailing decode
+    copy-is c h =
+        let l = decode F s in
+        let r = decode F t in
+        let bounds = boundChecks c l r in
+        let columns = check 11 (columnsAbsent (headFields a)) ∷ [] in
+        rw (e, h, ← first-append bounds columns (bounds-numbered l r c), ← p .head, ← q .head)
+        (rw (← p .head, ← q .head) at (operands-first (l .fields) (r .fields) (bounds ++ columns)))
 
 -- ---- Modulo and Power, by the types
 

@@ -4,7 +4,7 @@ use mathlib.Core.Bool.{Bool, true, false, cond, not}
 use mathlib.Core.List.{List, [], _∷_, _++_}
 use Prim.Native.Nat.{ℕ}
 use lib.Dec.{T, eqb}
-use borrow.Author.Tests.{not-true, eq-eqb}
+use borrow.Author.Tests.{eqb-true, not-true, eq-eqb}
 use Rattle.numbers.specs.Result.{Result, refused, Check, checked, firstFailing}
 use Rattle.utilities.specs.Lists.{every}
 use Rattle.utilities.proofs.Built.{both-hold}
@@ -22,6 +22,14 @@ module _ (c : Check) (cs : List Check) (z : Numbered (c ∷ cs)) where
   pub tail-numbered : Numbered cs
   unfolding every
   tail-numbered = record { all = both-hold (not (eqb (c .number) 0)) (every (λ c. not (eqb (c .number) 0)) cs) (z .all) .1 }
+
+-- nothing behind a part leaves what it says
+pub next-nothing : (k : ℕ) → next k 0 ≡ k
+next-nothing k = go (eqb k 0) refl
+  where
+    go : (t : Bool) → eqb k 0 ≡ t → cond t 0 k ≡ k
+    go true e = sym (eqb-true k 0 e)
+    go false e = refl
 
 -- the later checks count where the earlier ones refuse nothing
 pub first-append : (cs ds : List Check) → Numbered cs → firstFailing (cs ++ ds) ≡ next (firstFailing cs) (firstFailing ds)

@@ -1,4 +1,5 @@
-// Checks 6 to 16: 0, or the number of the first that fails. Each test is computed whole: operands that pass have every test made anyway.
+// Checks 6 to 16: 0, or the number of the first that fails. One that reads groups or entries is made only where none before it has failed; those of the
+// heads alone are made together.
 use crate::bounds;
 use crate::groups;
 use base::Component;
@@ -19,10 +20,12 @@ use base::refusals::STABILITIES;
 use base::refusals::TYPES;
 ghost use mathlib.Core.Path.{_≡_};
 ghost use mathlib.Core.Bool.{false, not, _&&_};
+ghost use mathlib.Core.List.{[], _∷_};
 ghost use lib.Dec.{eqb};
-ghost use Rattle.numbers.specs.Result.{firstFailing};
+ghost use Rattle.numbers.specs.Result.{check, firstFailing};
 ghost use Rattle.base.specs.Form.{formOf};
-ghost use Rattle.base.specs.Decode.{groupsIn, decode};
+ghost use Rattle.base.specs.Decode.{groupsIn, natureIn, decode};
+ghost use Rattle.base.specs.Bounds.{lowersPositive};
 ghost use Rattle.base.specs.Checks.{sizesFail};
 ghost use Rattle.base.specs.Code.{bitsIn, headFields};
 ghost use Rattle.shape.specs.Shape.{bothPrivate, sameGroups};
@@ -74,11 +77,11 @@ fn operand_code(h: Head) -> u32
     first(AGGREGATED, aggregated(h), first(SAMPLED, sampled(h), 0))
 }
 
-// 6 and 7 of both operands, left's before right's, then the rest.
-fn operands_code(l: Head, r: Head, rest: u32) -> u32
-    ensures { λ o. ⌜ o ≡ operandsCode (headFields l) (headFields r) rest ⌝ }
+// 6 and 7 of both operands, left's before right's.
+fn operands_code(l: Head, r: Head) -> u32
+    ensures { λ o. ⌜ o ≡ operandsCode (headFields l) (headFields r) 0 ⌝ }
 {
-    after(operand_code(l), after(operand_code(r), rest))
+    after(operand_code(l), operand_code(r))
 }
 
 // Abs and Negative.
@@ -132,8 +135,12 @@ pub fn pair_code(f: Form, left: &[u8], right: &[u8], l: Head, r: Head) -> u32
     requires { ⌜ Operand (formOf f) (now left) l × Operand (formOf f) (now right) r ⌝ }
     ensures { λ o. ⌜ o ≡ firstFailing (pairChecks (decode (formOf f) (now (left .entry))) (decode (formOf f) (now (right .entry)))) ⌝ }
 {
+    let k = operands_code(l, r);
+    if k != 0 {
+        return k;
+    }
     let clash = groups_clash(f, left, right, l, r);
-    operands_code(l, r, first(GROUPS, clash, shape_code(l, r)))
+    first(GROUPS, clash, shape_code(l, r))
 }
 
 // ---- 14 to 16
@@ -144,20 +151,26 @@ fn both_of(l: Head, r: Head, kind: u8) -> bool
     (l.data_type == kind) & (r.data_type == kind)
 }
 
+// 15, by whether the lowers are there as the component wants them; then 16, where they are not all above 0.
+fn positive_code(f: Form, s: &[u8], present: bool) -> u32
+    requires { ⌜ sizesFail (formOf f) (now s) ≡ false ⌝ }
+    ensures { λ r. ⌜ r ≡ firstFailing (check 15 (not present) ∷ check 16 (not (lowersPositive (natureIn (formOf f) (now (s .entry))))) ∷ []) ⌝ }
+{
+    if !present {
+        return BOUND_KINDS;
+    }
+    first(CONDITION, !bounds::lowers_positive(f, s), 0)
+}
+
 fn modulo_code(f: Form, right: &[u8], l: Head, r: Head) -> u32
     requires { ⌜ Operand (formOf f) (now right) r ⌝ }
     ensures { λ o. ⌜ o ≡ firstFailing (moduloChecks (only (headFields l)) (decode (formOf f) (now (right .entry)))) ⌝ }
 {
-    let conditions = first(CONDITION, !bounds::lowers_positive(f, right), 0);
     if both_of(l, r, form::INT_TYPE) {
-        return first(
-            BOUND_KINDS,
-            !bounds::whole_lowers_present(f, right),
-            conditions,
-        );
+        return positive_code(f, right, bounds::whole_lowers_present(f, right));
     }
     if both_of(l, r, form::FLOAT_TYPE) {
-        return first(BOUND_KINDS, !bounds::lowers_present(f, right), conditions);
+        return positive_code(f, right, bounds::lowers_present(f, right));
     }
     TYPES
 }
@@ -167,28 +180,23 @@ fn power_code(f: Form, right: &[u8], l: Head, r: Head) -> u32
     ensures { λ o. ⌜ o ≡ firstFailing (powerChecks (only (headFields l)) (decode (formOf f) (now (right .entry)))) ⌝ }
 {
     if both_of(l, r, form::INT_TYPE) {
-        let conditions = first(CONDITION, !bounds::lowers_non_negative(f, right), 0);
-        return first(
-            BOUND_KINDS,
-            !bounds::whole_lowers_present(f, right),
-            conditions,
-        );
+        if !bounds::whole_lowers_present(f, right) {
+            return BOUND_KINDS;
+        }
+        return first(CONDITION, !bounds::lowers_non_negative(f, right), 0);
     }
     first(TYPES, !both_of(l, r, form::FLOAT_TYPE), 0)
 }
 
-// 15 and 16 of the data.
+// 15 and 16 of the data. Of the two that are 15 the one that reads no entry comes first.
 fn data_code(f: Form, left: &[u8], right: &[u8]) -> u32
     requires { ⌜ (sizesFail (formOf f) (now left) ≡ false) × (sizesFail (formOf f) (now right) ≡ false) ⌝ }
     ensures { λ o. ⌜ o ≡ firstFailing (dataChecks (decode (formOf f) (now (left .entry))) (decode (formOf f) (now (right .entry)))) ⌝ }
 {
-    let whole = bounds::is_whole_range(f, left) & bounds::is_whole_range(f, right);
-    let rest = first(
-        BOUND_KINDS,
-        whole,
-        first(CONDITION, !bounds::lowers_positive(f, left), 0),
-    );
-    first(BOUND_KINDS, !bounds::lowers_present(f, left), rest)
+    if bounds::is_whole_range(f, left) & bounds::is_whole_range(f, right) {
+        return BOUND_KINDS;
+    }
+    positive_code(f, left, bounds::lowers_present(f, left))
 }
 
 // 15 and 16 are done for the base, then for the data.
@@ -196,14 +204,16 @@ fn log_code(f: Form, left: &[u8], right: &[u8], l: Head) -> u32
     requires { ⌜ Operand (formOf f) (now left) l × (sizesFail (formOf f) (now right) ≡ false) ⌝ }
     ensures { λ o. ⌜ o ≡ firstFailing (logChecks (decode (formOf f) (now (left .entry))) (decode (formOf f) (now (right .entry)))) ⌝ }
 {
-    let present = bounds::lowers_present(f, right) & bounds::uppers_present(f, right);
-    let suited = first(
-        CONDITION,
-        !bounds::all_suit_as_base(f, right),
-        data_code(f, left, right),
-    );
-    let rest = first(BOUND_KINDS, !present, suited);
-    first(TYPES, l.data_type != form::FLOAT_TYPE, rest)
+    if l.data_type != form::FLOAT_TYPE {
+        return TYPES;
+    }
+    if !(bounds::lowers_present(f, right) & bounds::uppers_present(f, right)) {
+        return BOUND_KINDS;
+    }
+    if !bounds::all_suit_as_base(f, right) {
+        return CONDITION;
+    }
+    data_code(f, left, right)
 }
 
 fn bound_code(f: Form, c: Component, left: &[u8], right: &[u8], l: Head, r: Head) -> u32
@@ -228,9 +238,15 @@ pub fn copy_code(f: Form, c: Component, left: &[u8], right: &[u8], l: Head, r: H
     requires { ⌜ Operand (formOf f) (now left) l × Operand (formOf f) (now right) r ⌝ }
     ensures { λ o. ⌜ o ≡ firstFailing (copyChecks c (decode (formOf f) (now (left .entry))) (decode (formOf f) (now (right .entry)))) ⌝ }
 {
-    let bounds = bound_code(f, c, left, right, l, r);
-    let columns = first(NO_COLUMNS, crate::columns_absent(l), 0);
-    operands_code(l, r, after(bounds, columns))
+    let k = operands_code(l, r);
+    if k != 0 {
+        return k;
+    }
+    let m = bound_code(f, c, left, right, l, r);
+    if m != 0 {
+        return m;
+    }
+    first(NO_COLUMNS, crate::columns_absent(l), 0)
 }
 
 // Modulo, Log and Power, after it.

@@ -1,26 +1,43 @@
 -- `shape::codes::copy_code` meets its contract: part by part. Assumes nothing.
-use denote.Ref.{now}
+use mathlib.Core.Path.{refl}
 use borrow.Author.Needs.{needs}
-use Rattle.base.specs.Form.{formOf}
-use Rattle.base.specs.Decode.{decode}
+use borrow.Author.Tests.{eq-eqb, ne-eqb}
 use Rattle.shape.proofs.Orders.{copy-is}
 use Rattle.shape.proofs.codes.copy_code.Statement.{statement}
 use Rattle.shape.proofs.codes.copy_code.Tie as tie
 
 returns : tie.Need-returns
-unfolding decode
 returns c =
-    let z = c .before .before .before .before .before .before .before in
-    rw (c .operands-code .ensures, c .before .after .ensures, c .before .before .first .ensures, c .before .before .before .columns-absent .ensures, c .before .before .before .before .bound-code .ensures)
-    (copy-is (decode (formOf (z .args .f)) (now (z .args .left))) (decode (formOf (z .args .f)) (now (z .args .right))) (z .pre .0 .head) (z .pre .1 .head) (z .args .c))
+    let z = c .before .before .before .before in
+    let k = c .before .operands-code in
+    rw (ne-eqb (k .result) 0 (c .if1 .taken)) at (copy-is (z .pre .0) (z .pre .1) (k .ensures) (z .args .c) refl)
+
+returns-2 : tie.Need-returns-2
+returns-2 c =
+    let b = c .before .before in
+    let z = b .before .before .before .before in
+    let k = b .before .operands-code in
+    let m = c .before .bound-code in
+    rw (eq-eqb (k .result) 0 (b .if1 .left), ne-eqb (m .result) 0 (c .if2 .taken)) at (copy-is (z .pre .0) (z .pre .1) (k .ensures) (z .args .c) (m .ensures))
+
+returns-3 : tie.Need-returns-3
+returns-3 c =
+    let d = c .before .before in
+    let b = d .before .before in
+    let z = b .before .before .before .before in
+    let k = b .before .operands-code in
+    let m = d .before .bound-code in
+    rw (c .first .ensures, c .before .columns-absent .ensures)
+    (rw (eq-eqb (k .result) 0 (b .if1 .left), eq-eqb (m .result) 0 (d .if2 .left)) at (copy-is (z .pre .0) (z .pre .1) (k .ensures) (z .args .c) (m .ensures)))
 
 pub copy-code-spec : {M : Type 1} → statement M
 copy-code-spec =
     tie.close
     (tie.spec
     (λ c κs. search needs)
+    returns
+    (λ c κs. search needs)
+    returns-2
     (λ c κs. search needs)
     (λ c κs. search needs)
-    (λ c κs. search needs)
-    (λ c κs. search needs)
-    returns)
+    returns-3)

@@ -1,17 +1,13 @@
 -- `shape::codes::last_code` meets its contract. Assumes nothing.
-use denote.Ref.{now}
 use borrow.Author.Needs.{needs}
-use Rattle.base.specs.Form.{formOf}
-use Rattle.base.specs.Decode.{decode}
 use Rattle.shape.proofs.Orders.{last-is}
 use Rattle.shape.proofs.codes.last_code.Statement.{statement}
 use Rattle.shape.proofs.codes.last_code.Tie as tie
 
 returns : tie.Need-returns
-unfolding decode
 returns c =
     let z = c .before .before .before .before in
-    rw (c .first .ensures, c .before .groups-clash .ensures) (last-is (decode (formOf (z .args .f)) (now (z .args .left))) (decode (formOf (z .args .f)) (now (z .args .right))) (z .pre .0 .head) (z .pre .1 .head))
+    rw (c .first .ensures, c .before .groups-clash .ensures) (last-is (z .pre .0) (z .pre .1))
 
 pub last-code-spec : {M : Type 1} → statement M
 last-code-spec = tie.close (tie.spec (λ c κs. (c .before .before .pre .0 .passed, c .before .before .pre .1 .passed)) (λ c κs. search needs) returns)

@@ -9,15 +9,21 @@ use Rattle.shape.proofs.codes.power_code.Tie as tie
 returns : tie.Need-returns
 unfolding firstFailing decode
 returns c =
-    let b = c .before .before .before .before .before in
-    rw (← b .before .before .pre .head, ← b .both-of .ensures, c .before .before .before .before .if1 .taken)
-    (rw (c .first2 .ensures, c .before .whole-lowers-present .ensures, c .before .before .first .ensures, c .before .before .before .lowers-non-negative .ensures))
+    let b = c .before .before .before in
+    rw (← b .before .before .pre .head, ← b .both-of .ensures, c .before .before .if1 .taken, ← c .before .whole-lowers-present .ensures, c .if2 .taken)
 
 returns-2 : tie.Need-returns-2
 unfolding firstFailing decode
 returns-2 c =
     let b = c .before .before .before in
-    rw (← b .before .before .pre .head, ← b .both-of .ensures, c .before .before .if1 .left, ← c .before .both-of2 .ensures, c .first3 .ensures) (types-code (c .before .both-of2 .result))
+    rw (← b .before .before .before .before .pre .head, ← b .before .before .both-of .ensures, b .before .if1 .taken, ← b .whole-lowers-present .ensures, c .before .before .if2 .left)
+    (rw (c .first .ensures, c .before .lowers-non-negative .ensures))
+
+returns-3 : tie.Need-returns-3
+unfolding firstFailing decode
+returns-3 c =
+    let b = c .before .before .before in
+    rw (← b .before .before .pre .head, ← b .both-of .ensures, c .before .before .if1 .left, ← c .before .both-of2 .ensures, c .first2 .ensures) (types-code (c .before .both-of2 .result))
 
 pub power-code-spec : {M : Type 1} → statement M
 power-code-spec =
@@ -25,10 +31,10 @@ power-code-spec =
     (tie.spec
     (λ c κs. search needs)
     (λ c κs. c .before .before .before .pre .passed)
-    (λ c κs. search needs)
+    returns
     (λ c κs. c .before .before .before .before .before .pre .passed)
     (λ c κs. search needs)
-    returns
+    returns-2
     (λ c κs. search needs)
     (λ c κs. search needs)
-    returns-2)
+    returns-3)
