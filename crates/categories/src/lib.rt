@@ -19,6 +19,8 @@ ghost use Rattle.utilities.specs.Lists.{firsts, noted};
 ghost use Rattle.utilities.specs.Noted.{Begins, Hinting, hintCount};
 ghost use Rattle.base.specs.Form.{formOf, listCount};
 ghost use Rattle.base.specs.Decode.{asWhole, lists};
+ghost use Rattle.base.specs.Components.{familyOf};
+ghost use Rattle.base.specs.declared.Family.the-variants as Fam;
 ghost use Rattle.writer.specs.Written.{inWriting, derivedIn, listsRoom, Within};
 ghost use Rattle.categories.specs.Categories.{absWhole, combined, mapped, limited, ruleOf};
 ghost use Rattle.categories.specs.Columnwise.{Listed, Reaches, Alike, eachFrom, pick, spreadOf, lesserOf, columnOf};
@@ -36,20 +38,29 @@ fn magnitude(a: i64) -> Checked
     numbers::checked_neg(a)
 }
 
-// The rule of a component. No call reaches those of Modulo, Log and Power.
-fn category(c: Component, a: i64, b: i64) -> Checked
-    ensures { λ r. ⌜ fitting r ≡ ruleOf c a b ⌝ }
+// The rule of Abs or Negative.
+fn mapping(c: Component, a: i64) -> Checked
+    requires { ⌜ familyOf c ≡ Fam.Unary ⌝ }
+    ensures { λ r. ⌜ fitting r ≡ ruleOf c a a ⌝ }
 {
     match c {
         Component::Abs => magnitude(a),
+        Component::Negative => numbers::checked_neg(a),
+        _ => Checked::Leaves,
+    }
+}
+
+// The rule of Add, Subtract, Multiply or Divide.
+fn category(c: Component, a: i64, b: i64) -> Checked
+    requires { ⌜ familyOf c ≡ Fam.Pair ⌝ }
+    ensures { λ r. ⌜ fitting r ≡ ruleOf c a b ⌝ }
+{
+    match c {
         Component::Add => numbers::checked_add(a, b),
         Component::Subtract => numbers::checked_sub(a, b),
         Component::Multiply => numbers::checked_mul(a, b),
         Component::Divide => numbers::checked_div(a, b),
-        Component::Modulo => Checked::Leaves,
-        Component::Log => Checked::Leaves,
-        Component::Power => Checked::Leaves,
-        Component::Negative => numbers::checked_neg(a),
+        _ => Checked::Leaves,
     }
 }
 
@@ -213,7 +224,7 @@ fn products_into(
     numbers: &mut [u8],
     values: &mut [u8],
 ) -> Derived
-    requires { ⌜ Listed (formOf f) (now left) × ((listCount (formOf f) (now left) ≡ 1 → ⊥) → n ≤ listCount (formOf f) (now left)) ⌝ }
+    requires { ⌜ Listed (formOf f) (now left) × ((listCount (formOf f) (now left) ≡ 1 → ⊥) → n ≤ listCount (formOf f) (now left)) × (familyOf c ≡ Fam.Pair) ⌝ }
     requires { ⌜ Listed (formOf f) (now right) × ((listCount (formOf f) (now right) ≡ 1 → ⊥) → n ≤ listCount (formOf f) (now right)) ⌝ }
     requires { ⌜ n ≤ formOf f .listLimit ⌝ }
     requires { ⌜ Stores (formOf f) (now us) (now bs) (now store) (now hints) × Arrays (formOf f) (now numbers) (now values) ⌝ }
@@ -263,7 +274,7 @@ fn maps_into(
     numbers: &mut [u8],
     values: &mut [u8],
 ) -> Derived
-    requires { ⌜ Listed (formOf f) (now left) × ((listCount (formOf f) (now left) ≡ 1 → ⊥) → n ≤ listCount (formOf f) (now left)) ⌝ }
+    requires { ⌜ Listed (formOf f) (now left) × ((listCount (formOf f) (now left) ≡ 1 → ⊥) → n ≤ listCount (formOf f) (now left)) × (familyOf c ≡ Fam.Unary) ⌝ }
     requires { ⌜ n ≤ formOf f .listLimit ⌝ }
     requires { ⌜ Stores (formOf f) (now us) (now us) (now store) (now hints) × Arrays (formOf f) (now numbers) (now values) ⌝ }
     ensures { λ r. ⌜ (derivedIn r (now (numbers .exit)) (now (values .exit)) ≡ inWriting (formOf f) (limited (formOf f .categoryLimit) (eachFrom (columnOf true eqZ (ruleOf c) (lists (formOf f) (now (left .entry)) asWhole) (lists (formOf f) (now (left .entry)) asWhole)) n 0))) × Within (formOf f) (listsRoom (formOf f)) (now (numbers .exit)) (now (values .exit)) r ⌝ }
@@ -276,7 +287,7 @@ fn maps_into(
         let mut i: usize = 0;
         while i < k {
             let a = us[i];
-            let Checked::Fits(v) = category(c, a, a) else {
+            let Checked::Fits(v) = mapping(c, a) else {
                 code = refusals::LEAVES_64_BITS;
                 break 'product;
             };
@@ -320,7 +331,7 @@ pub fn lists_alone(
     numbers: &mut [u8],
     values: &mut [u8],
 ) -> Derived
-    requires { ⌜ Listed (formOf f) (now left) × (0 < columns) × (columns ≤ formOf f .columnLimit) ⌝ }
+    requires { ⌜ Listed (formOf f) (now left) × (0 < columns) × (columns ≤ formOf f .columnLimit) × (familyOf c ≡ Fam.Unary) ⌝ }
     requires { ⌜ Stores (formOf f) (now us) (now us) (now store) (now hints) × Arrays (formOf f) (now numbers) (now values) ⌝ }
     ensures { λ r. ⌜ (derivedIn r (now (numbers .exit)) (now (values .exit)) ≡ inWriting (formOf f) (limited (formOf f .categoryLimit) (mapped eqZ (ruleOf c) columns (lists (formOf f) (now (left .entry)) asWhole)))) × Within (formOf f) (listsRoom (formOf f)) (now (numbers .exit)) (now (values .exit)) r ⌝ }
 {
@@ -343,7 +354,7 @@ pub fn lists_pair(
     numbers: &mut [u8],
     values: &mut [u8],
 ) -> Derived
-    requires { ⌜ Listed (formOf f) (now left) × Listed (formOf f) (now right) × (0 < columns) × (columns ≤ formOf f .columnLimit) ⌝ }
+    requires { ⌜ Listed (formOf f) (now left) × Listed (formOf f) (now right) × (0 < columns) × (columns ≤ formOf f .columnLimit) × (familyOf c ≡ Fam.Pair) ⌝ }
     requires { ⌜ Stores (formOf f) (now us) (now bs) (now store) (now hints) × Arrays (formOf f) (now numbers) (now values) ⌝ }
     ensures { λ r. ⌜ (derivedIn r (now (numbers .exit)) (now (values .exit)) ≡ inWriting (formOf f) (limited (formOf f .categoryLimit) (combined eqZ (ruleOf c) columns (lists (formOf f) (now (left .entry)) asWhole) (lists (formOf f) (now (right .entry)) asWhole)))) × Within (formOf f) (listsRoom (formOf f)) (now (numbers .exit)) (now (values .exit)) r ⌝ }
 {

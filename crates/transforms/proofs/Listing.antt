@@ -1,5 +1,6 @@
 -- Category operands: which of 19 to 22 refuses, and the rule on whole categories where none does.
 --     left-fails, right-fails, unequal-lists, bool-pair, no-rule, pair-ruled    of two operands
+--     paired                                                                    which components have a rule on two
 --     alone-fails, bool-alone, alone-ruled                                      of one
 -- Assumes nothing.
 use mathlib.Core.Path.{_≡_, refl, sym, ap, ap₂, _∙_}
@@ -18,7 +19,7 @@ use Rattle.base.specs.Form.{Form, byteAt, natureAt, isRangeNature, listCount, f
 use Rattle.base.specs.Sheet.{Nature}
 use Rattle.base.specs.Decode.{asWhole, natureIn, lists}
 use Rattle.base.specs.Encode.{natureNumber, entryCount}
-use Rattle.base.specs.Components.{familyOf}
+use Rattle.base.specs.Components.{familyOf, isUnary}
 use Rattle.base.specs.declared.Component.{Component}
 use Rattle.base.specs.declared.Component.the-variants as C
 use Rattle.base.specs.declared.Family.{Family}
@@ -146,6 +147,12 @@ ruled-apart : (f : Family) (type : ℕ) → hasRule f ≡ true → isIntCopy f t
 ruled-apart Fam.Unary type h = refl
 ruled-apart Fam.Pair type h = refl
 ruled-apart Fam.Copy type h = absurd (yes-no (sym h))
+
+-- of the components that read both operands, those of one family have such a rule
+pub paired : (f : Family) → isUnary f ≡ false → hasRule f ≡ true → f ≡ Fam.Pair
+paired Fam.Unary u h = absurd (yes-no u)
+paired Fam.Pair u h = refl
+paired Fam.Copy u h = absurd (yes-no (sym h))
 
 rule-some : (c : Component) (type : ℕ) → hasRule (familyOf c) ≡ true → categoryRule c type ≡ some (ruleOf c)
 rule-some c type h = rule-is c type (ruled-apart (familyOf c) type h) ∙ ap (λ (t : Bool). cond t (some (ruleOf c)) none) h

@@ -7,14 +7,15 @@ use base::refusals;
 use writer::Derived;
 use writer::Parts;
 ghost use mathlib.Core.Path.{_≡_};
-ghost use mathlib.Core.Bool.{true};
+ghost use mathlib.Core.Bool.{false};
 ghost use mathlib.Core.List.{List, [], _∷_};
 ghost use Prim.Native.Nat.{ℕ};
 ghost use lib.Dec.{eqb};
 ghost use Rattle.numbers.specs.Result.{ok, check, firstFailing};
 ghost use Rattle.base.specs.Form.{formOf, floatListsNature};
 ghost use Rattle.base.specs.Sheet.{absent};
-ghost use Rattle.base.specs.Components.{familyOf};
+ghost use Rattle.base.specs.Components.{familyOf, isUnary};
+ghost use Rattle.base.specs.declared.Family.the-variants as Fam;
 ghost use Rattle.base.specs.Decode.{natureIn};
 ghost use Rattle.writer.specs.Written.{inWriting, derivedIn, Within};
 ghost use Rattle.transforms.specs.Natures.{listsPair, listsAlone, unaryNature, binaryNature};
@@ -73,7 +74,7 @@ fn propagate_binary_categorical_nature(
     first: &mut [u8],
     second: &mut [u8],
 ) -> Derived
-    requires { ⌜ Lists (formOf f) (now left) × Lists (formOf f) (now right) × Ready (formOf f) columns (now first) (now second) × Reached (formOf f) c data_type (now right) ⌝ }
+    requires { ⌜ Lists (formOf f) (now left) × Lists (formOf f) (now right) × Ready (formOf f) columns (now first) (now second) × Reached (formOf f) c data_type (now right) × (isUnary (familyOf c) ≡ false) ⌝ }
     requires { ⌜ Lent (formOf f) (now left) (now right) (now us) (now bs) (now store) (now hints) (now first) (now second) ⌝ }
     ensures { λ r. ⌜ (derivedIn r (now (first .exit)) (now (second .exit)) ≡ inWriting (formOf f) (listsPair (formOf f .categoryLimit) c data_type columns (natureIn (formOf f) (now (left .entry))) (natureIn (formOf f) (now (right .entry))))) × Within (formOf f) (arraysRoom (formOf f) (now (left .entry)) (now (right .entry))) (now (first .exit)) (now (second .exit)) r ⌝ }
 {
@@ -126,7 +127,7 @@ fn propagate_unary_categorical_nature(
     first: &mut [u8],
     second: &mut [u8],
 ) -> Derived
-    requires { ⌜ Lists (formOf f) (now s) × Ready (formOf f) columns (now first) (now second) × (hasRule (familyOf c) ≡ true) ⌝ }
+    requires { ⌜ Lists (formOf f) (now s) × Ready (formOf f) columns (now first) (now second) × (familyOf c ≡ Fam.Unary) ⌝ }
     requires { ⌜ Lent (formOf f) (now s) (now s) (now us) (now us) (now store) (now hints) (now first) (now second) ⌝ }
     ensures { λ r. ⌜ (derivedIn r (now (first .exit)) (now (second .exit)) ≡ inWriting (formOf f) (listsAlone (formOf f .categoryLimit) c data_type columns (natureIn (formOf f) (now (s .entry))))) × Within (formOf f) (arraysRoom (formOf f) (now (s .entry)) (now (s .entry))) (now (first .exit)) (now (second .exit)) r ⌝ }
 {
@@ -156,7 +157,7 @@ pub fn propagate_binary_nature(
     first: &mut [u8],
     second: &mut [u8],
 ) -> Derived
-    requires { ⌜ Read (formOf f) (now left) × Read (formOf f) (now right) × Ready (formOf f) columns (now first) (now second) × Reached (formOf f) c data_type (now right) ⌝ }
+    requires { ⌜ Read (formOf f) (now left) × Read (formOf f) (now right) × Ready (formOf f) columns (now first) (now second) × Reached (formOf f) c data_type (now right) × (isUnary (familyOf c) ≡ false) ⌝ }
     requires { ⌜ Lent (formOf f) (now left) (now right) (now us) (now bs) (now store) (now hints) (now first) (now second) ⌝ }
     ensures { λ r. ⌜ (derivedIn r (now (first .exit)) (now (second .exit)) ≡ inWriting (formOf f) (binaryNature (formOf f .categoryLimit) c data_type columns (natureIn (formOf f) (now (left .entry))) (natureIn (formOf f) (now (right .entry))))) × Within (formOf f) (arraysRoom (formOf f) (now (left .entry)) (now (right .entry))) (now (first .exit)) (now (second .exit)) r ⌝ }
 {
@@ -219,7 +220,7 @@ pub fn propagate_unary_nature(
     first: &mut [u8],
     second: &mut [u8],
 ) -> Derived
-    requires { ⌜ Read (formOf f) (now s) × Ready (formOf f) columns (now first) (now second) × (hasRule (familyOf c) ≡ true) ⌝ }
+    requires { ⌜ Read (formOf f) (now s) × Ready (formOf f) columns (now first) (now second) × (familyOf c ≡ Fam.Unary) ⌝ }
     requires { ⌜ Lent (formOf f) (now s) (now s) (now us) (now us) (now store) (now hints) (now first) (now second) ⌝ }
     ensures { λ r. ⌜ (derivedIn r (now (first .exit)) (now (second .exit)) ≡ inWriting (formOf f) (unaryNature (formOf f .categoryLimit) c data_type columns (natureIn (formOf f) (now (s .entry))))) × Within (formOf f) (arraysRoom (formOf f) (now (s .entry)) (now (s .entry))) (now (first .exit)) (now (second .exit)) r ⌝ }
 {

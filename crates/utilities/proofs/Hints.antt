@@ -5,7 +5,7 @@ use mathlib.Core.List.{List, [], _∷_, _++_}
 use Prim.Native.Nat.{ℕ, _<_}
 use native.Mathlib.Omega.{arith}
 use lib.IntN.{ℤ}
-use lib.ListN.{length, take, getD, set, length-set}
+use lib.ListN.{length, take, getD, set, replicate, length-set, length-replicate}
 use lib.Seq.{getD-set-same, getD-set-other}
 use lib.Dec.{eqb}
 use borrow.Author.Tests.{eqb-true, eqb-false}
@@ -18,9 +18,9 @@ use Rattle.utilities.specs.declared.Noted.the-variants.{At, Full}
 use Rattle.utilities.proofs.Firsts.{has-append}
 
 -- no value was noted yet
-pub hinting-none : (hints : List ℕ) → length hints ≡ hintCount → Hinting hints []
+pub hinting-none : {hints : List ℕ} → hints ≡ replicate hintCount 0 → Hinting hints []
 unfolding has
-hinting-none hints size = record { size = size; new = λ x e. refl }
+hinting-none cleared = record { size = ap length cleared ∙ length-replicate {A = ℕ} hintCount 0; new = λ x e. refl }
 
 pub hint-within : (x : ℤ) → hintAt x < hintCount
 hint-within x = omega arith

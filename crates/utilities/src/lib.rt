@@ -1,8 +1,7 @@
 // Lists of whole numbers without repeats: first occurrences stay.
 ghost use mathlib.Core.Path.{_≡_};
-ghost use mathlib.Core.List.{[]};
 ghost use Prim.Native.Nat.{_≤_, _<_};
-ghost use lib.ListN.{length, take};
+ghost use lib.ListN.{length, take, replicate};
 ghost use Rattle.numbers.specs.Kind.{eqZ};
 ghost use Rattle.utilities.specs.Lists.{has, noted, firsts};
 ghost use Rattle.utilities.specs.Noted.{Begins, Notes, Hinting, hintCount, hintAt, held};
@@ -47,10 +46,10 @@ pub enum Noted {
 // How many hints there are: one for each low byte of a value. A hint is 0 as long as no value with its low byte was noted.
 pub const HINTS: usize = 256;
 
-// No value was noted yet.
+// No value was noted yet: every hint is 0.
 pub fn clear_hints(hints: &mut [u8])
     requires { ⌜ length (now hints) ≡ hintCount ⌝ }
-    ensures { λ r. ⌜ Hinting (now (hints .exit)) [] ⌝ }
+    ensures { λ r. ⌜ now (hints .exit) ≡ replicate hintCount 0 ⌝ }
 {
     let mut i = 0;
     while i < HINTS {

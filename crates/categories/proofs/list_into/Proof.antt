@@ -16,7 +16,7 @@ use Rattle.utilities.specs.Lists.{firsts}
 use Rattle.utilities.proofs.Firsts.{noted-length}
 use Rattle.utilities.specs.Noted.{Hinting}
 use Rattle.utilities.proofs.Begins.{begins-room, notes-at, notes-full}
-use Rattle.utilities.proofs.Hints.{hinting-at}
+use Rattle.utilities.proofs.Hints.{hinting-none, hinting-at}
 use Rattle.base.specs.Form.{formOf}
 use Rattle.base.specs.Decode.{asWhole, listNumber, listAt, lists as listsIn}
 use Rattle.base.specs.Sized.{ListsFit}
@@ -46,7 +46,7 @@ loop-holds c =
     let s = z .before .before .before in
     let fit = listed-fits (s .pre .0) (z .sizes-at .ensures) in
     let from = lists-from (formOf (s .args .f)) (now (s .args .s)) asWhole (s .args .j) fit (s .pre .1) in
-    (fit, search needs, search needs, refl, c .before .before .clear-hints .ensures, taking-start (now (s .args .out)) (ap (firsts eqZ) from))
+    (fit, search needs, search needs, refl, hinting-none (c .before .before .clear-hints .ensures), taking-start (now (s .args .out)) (ap (firsts eqZ) from))
 
 list-number-requires : tie.Need-list-number-requires Inv-loop μ-loop
 list-number-requires c κs = (c .before .loop .inv .0, c .loop-test .taken)

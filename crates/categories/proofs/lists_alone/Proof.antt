@@ -28,7 +28,7 @@ maps-into-requires c κs =
     let l = listCount F (now (s .args .left)) in
     let e : n .spread .result ≡ spreadOf columns l = n .spread .ensures ∙ ap (spreadOf columns) (n .before .sizes-at .ensures .lists) in
     let w = columns-within columns l (n .spread .result) (omega (arith, e)) (omega (arith, p .2, laid (s .args .f) .columnsListed)) (listed-within (p .0)) in
-    ((p .0, w .0), (w .1, s .pre .1))
+    ((p .0, w .0, p .3), (w .1, s .pre .1))
 
 returns : tie.Need-returns
 returns c =

@@ -44,7 +44,7 @@ products-into-requires c κs =
     let few : columns ≤ F .listLimit = omega (arith, p .3, laid (s .args .f) .columnsListed) in
     let left = columns-within columns l (n .lesser .result) (omega (arith, e, below .0)) few (listed-within (p .0)) in
     let right = columns-within columns r (n .lesser .result) (omega (arith, e, below .1)) few (listed-within (p .1)) in
-    ((p .0, left .0), ((p .1, right .0), (left .1, s .pre .1)))
+    ((p .0, left .0, p .4), ((p .1, right .0), (left .1, s .pre .1)))
 
 returns : tie.Need-returns
 returns c =

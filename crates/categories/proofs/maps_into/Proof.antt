@@ -107,7 +107,7 @@ loop-again c =
     let v = c .before .v .given in
     let got = v .0 .0 in
     let back : toZ w64 (ofZ w64 got) ≡ got = search needs in
-    let e = answered (λ z. rule z z) all (call .result) (l .i) (g .category .result) (t .loop-test .taken) read (g .category .ensures) (ap fitting (v .1)) in
+    let e = answered (λ z. rule z z) all (call .result) (l .i) (g .mapping .result) (t .loop-test .taken) read (g .mapping .ensures) (ap fitting (v .1)) in
     let next : l .i < length us = omega (arith, begun-length (call .ensures), t .loop-test .taken) in
     let stored : take (l .i + 1) (set (l .store) (l .i) (toZ w64 (ofZ w64 got))) ≡ take (l .i) (l .store) ++ (got ∷ []) =
     ap (λ (k : ℕ). take k (set (l .store) (l .i) (toZ w64 (ofZ w64 got)))) (add-one (l .i))

@@ -16,6 +16,7 @@ use borrow.Author.Needs.{needs}
 use Rattle.numbers.specs.Kind.{fitting, eqZ}
 use Rattle.utilities.specs.Noted.{Hinting}
 use Rattle.utilities.proofs.Begins.{begins-room}
+use Rattle.utilities.proofs.Hints.{hinting-none}
 use Rattle.base.specs.Form.{formOf}
 use Rattle.base.proofs.Forms.{small}
 use Rattle.categories.specs.Categories.{product, ruleOf}
@@ -106,7 +107,7 @@ loop-holds c =
     let us = take (left .column-list .result) (left .column-list .last .1 .1 .1 .0) in
     let bs = take (right .column-list2 .result) (right .column-list2 .last .1 .1 .1 .0) in
     let column = sym (ap₂ (product eqZ rule) (left .column-list .ensures .start) (right .column-list2 .ensures .start)) ∙ product-is eqZ rule us bs in
-    (search needs, refl, o .product .inv .0 .fine, search needs, c .before .before .clear-hints .ensures, making-start (o .product .store) (inPairs eqZ rule us bs 0) column)
+    (search needs, refl, o .product .inv .0 .fine, search needs, hinting-none (c .before .before .clear-hints .ensures), making-start (o .product .store) (inPairs eqZ rule us bs 0) column)
 
 -- a value that is read stands in its store
 left-within : (c : tie.In-loop Inv-loop2 μ-loop2 Inv-loop μ-loop Inv-product μ-product) →

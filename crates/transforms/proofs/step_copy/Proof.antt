@@ -1,10 +1,11 @@
 -- `transforms::step_copy` meets its contract. Assumes nothing.
-use mathlib.Core.Path.{_≡_, sym, _∙_}
+use mathlib.Core.Path.{_≡_, sym, ap, _∙_}
 use mir.Syntax.{w64}
 use mir.Val.{toZ, ofZ}
 use denote.Ref.{now}
 use borrow.Author.Needs.{needs}
 use Rattle.base.specs.Form.{formOf}
+use Rattle.base.specs.Components.{isUnary}
 use Rattle.transforms.proofs.Passing.{stands, copy-columns, reached}
 use Rattle.transforms.proofs.Delivered.{room, copy-refused, copy-nature-refused, copy-last-refused, copy-written}
 use Rattle.transforms.proofs.step_copy.Statement.{statement}
@@ -36,6 +37,7 @@ propagate-binary-nature-requires c κs =
         p .0 .1,
         record { some-column = limited .0; within = limited .1; first-room = p .1 .0 .first-room; second-room = p .1 .0 .second-room },
         reached (formOf (a .f)) (now (a .left)) (now (a .right)) (a .c) head none,
+        ap isUnary (p .0 .2),
       ),
       p .1 .1,
     )

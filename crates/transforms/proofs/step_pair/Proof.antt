@@ -10,6 +10,7 @@ use mir.Facts.{toZ-ofZ}
 use denote.Ref.{now}
 use borrow.Author.Needs.{needs}
 use Rattle.base.specs.Form.{formOf}
+use Rattle.base.specs.Components.{isUnary}
 use Rattle.base.specs.declared.Family.{Family}
 use Rattle.transforms.specs.Code.{isIntCopy}
 use Rattle.transforms.proofs.Passing.{stands, pair-columns}
@@ -49,6 +50,7 @@ propagate-binary-nature-requires c κs =
         p .0 .1,
         record { some-column = limited .0; within = limited .1; first-room = p .1 .0 .first-room; second-room = p .1 .0 .second-room },
         inl (ap (λ (f : Family). isIntCopy f (head .read-head .result .«data_type»)) (p .0 .2)),
+        ap isUnary (p .0 .2),
       ),
       p .1 .1,
     )

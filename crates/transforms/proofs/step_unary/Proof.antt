@@ -1,11 +1,10 @@
 -- `transforms::step_unary` meets its contract. Assumes nothing.
-use mathlib.Core.Path.{_≡_, sym, ap, _∙_}
+use mathlib.Core.Path.{_≡_, sym, _∙_}
 use mir.Syntax.{w64}
 use mir.Val.{toZ, ofZ}
 use denote.Ref.{now}
 use borrow.Author.Needs.{needs}
 use Rattle.base.specs.Form.{formOf}
-use Rattle.transforms.specs.Code.{hasRule}
 use Rattle.transforms.proofs.Passing.{stands, unary-columns}
 use Rattle.transforms.proofs.Delivered.{room, bounded, unary-refused, unary-nature-refused, unary-written}
 use Rattle.transforms.proofs.step_unary.Statement.{statement}
@@ -29,7 +28,7 @@ propagate-unary-nature-requires c κs =
     let p = start .pre in
     let none = sym (code .unary-code .ensures) ∙ width .before .if1 .left in
     let limited = unary-columns (formOf (a .f)) (now (a .left)) (p .0 .0 .fields) (code .before .read-head .ensures) (width .columns-of .ensures) none in
-    ((p .0 .0, record { some-column = limited .0; within = limited .1; first-room = p .1 .0 .first-room; second-room = p .1 .0 .second-room }, ap hasRule (p .0 .1)), p .1 .1)
+    ((p .0 .0, record { some-column = limited .0; within = limited .1; first-room = p .1 .0 .first-room; second-room = p .1 .0 .second-room }, p .0 .1), p .1 .1)
 
 node-at-requires : tie.Need-node-at-requires
 node-at-requires c κs = stands (c .before .before .before .before .before .before .before .before .before .before .before .before .before .before .before .before .before .before .before .before .before .before .before .before .before .before .before .before .before .pre .0 .0)

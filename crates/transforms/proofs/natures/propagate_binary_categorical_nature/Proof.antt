@@ -1,13 +1,16 @@
 -- `transforms::natures::propagate_binary_categorical_nature` meets its contract. Assumes nothing.
 use mathlib.Core.Path.{_≡_, sym, ap, _∙_}
+use mathlib.Core.Bool.{true}
 use denote.Ref.{now}
 use borrow.Author.Needs.{needs}
 use borrow.Author.Tests.{not-true, not-false}
 use Rattle.base.specs.Form.{formOf, byteAt, natureAt}
+use Rattle.base.specs.Components.{familyOf}
 use Rattle.writer.specs.Written.{inWriting}
+use Rattle.transforms.specs.Code.{hasRule}
 use Rattle.transforms.proofs.Passing.{stands}
 use Rattle.transforms.proofs.Lending.{used, lists-room}
-use Rattle.transforms.proofs.Listing.{Fine, fine, is-whole, fine-listed, left-fails, right-fails, unequal-lists, bool-pair, no-rule, pair-ruled}
+use Rattle.transforms.proofs.Listing.{Fine, fine, is-whole, fine-listed, left-fails, right-fails, unequal-lists, bool-pair, no-rule, paired, pair-ruled}
 use Rattle.transforms.proofs.natures.propagate_binary_categorical_nature.Statement.{statement}
 use Rattle.transforms.proofs.natures.propagate_binary_categorical_nature.Tie as tie
 
@@ -41,6 +44,10 @@ equal c = sym (c .before .before .before .before .before .before .before .before
 
 whole : (c : tie.Else4) → byteAt (formOf (c .before .before .before .before .before .before .before .before .before .before .before .before .before .before .before .args .f)) natureAt (now (c .before .before .before .before .before .before .before .before .before .before .before .before .before .before .before .args .left)) ≡ 3
 whole c = is-whole (left-passes (c .before .before .before .before .before)) (λ e. c .if4 .left (c .before .before .before .before .before .before .before .before .before .nature-of .ensures ∙ e))
+
+-- there is code for the rule
+has : (c : tie.Else5) → hasRule (familyOf (c .before .before .before .before .before .before .before .before .before .before .before .before .before .before .before .before .before .args .c)) ≡ true
+has c = sym (c .before .has-rule .ensures) ∙ not-false (c .before .has-rule .result) (c .if5 .left)
 
 sizes-at-requires-2 : tie.Need-sizes-at-requires-2
 sizes-at-requires-2 c κs = stands (c .before .before .before .before .before .before .before .before .before .before .pre .0 .1 .read)
@@ -88,7 +95,8 @@ lists-pair-requires c κs =
     let ready = b .pre .0 .2 in
     let left = fine-listed (left-passes (c .before .before .before .before .before .before .before .before .before .before .before .before .before)) (whole (c .before .before .before .before .before .before .before .before)) in
     let right = fine-listed (right-passes (c .before .before .before .before .before .before .before .before .before .before)) (sym (equal (c .before .before .before .before .before .before .before .before .before)) ∙ whole (c .before .before .before .before .before .before .before .before)) in
-    ((left, right, ready .some-column, ready .within), used left right (b .pre .1))
+    let pair = paired (familyOf (b .args .c)) (b .pre .0 .4) (has (c .before .before .before .before .before .before)) in
+    ((left, right, ready .some-column, ready .within, pair), used left right (b .pre .1))
 
 returns-6 : tie.Need-returns-6
 returns-6 c =
@@ -98,8 +106,7 @@ returns-6 c =
     let g = right-passes (c .before .before .before .before .before .before .before .before .before .before .before .before .before .before .before .before .before .before .before .before) in
     let same = equal (c .before .before .before .before .before .before .before .before .before .before .before .before .before .before .before .before .before .before .before) in
     let is = whole (c .before .before .before .before .before .before .before .before .before .before .before .before .before .before .before .before .before .before) in
-    let has = sym (c .before .before .before .before .before .before .before .before .before .before .before .before .before .before .before .before .before .has-rule .ensures) ∙ not-false (c .before .before .before .before .before .before .before .before .before .before .before .before .before .before .before .before .before .has-rule .result) (c .before .before .before .before .before .before .before .before .before .before .before .before .before .before .before .before .if5 .left) in
-    let e = pair-ruled (F .categoryLimit) (a .c) (a .data-type) (a .columns) F (now (a .left)) (now (a .right)) f g same is has in
+    let e = pair-ruled (F .categoryLimit) (a .c) (a .data-type) (a .columns) F (now (a .left)) (now (a .right)) f g same is (has (c .before .before .before .before .before .before .before .before .before .before .before .before .before .before .before .before)) in
     (c .before .before .before .before .before .before .before .before .before .lists-pair .ensures .0 ∙ ap (inWriting F) (sym e), rw (lists-room (fine-listed f is) (fine-listed g (sym same ∙ is))) (c .before .before .before .before .before .before .before .before .before .lists-pair .ensures .1))
 
 pub propagate-binary-categorical-nature-spec : {M : Type 1} → statement M

@@ -130,7 +130,7 @@ propagate-binary-categorical-nature-requires : tie.Need-propagate-binary-categor
 propagate-binary-categorical-nature-requires c κs =
     let w = c .before .before .before .before .before .before in
     let b = w .before .before .before .before .before .before .before .before .before .before .before .before .before in
-    ((left-lists w, right-lists w, b .pre .0 .2, b .pre .0 .3), b .pre .1)
+    ((left-lists w, right-lists w, b .pre .0 .2, b .pre .0 .3, b .pre .0 .4), b .pre .1)
 
 returns-7 : tie.Need-returns-7
 returns-7 c =

@@ -4,6 +4,7 @@ use denote.Ref.{now}
 use borrow.Author.Needs.{needs}
 use Rattle.base.specs.Form.{formOf, byteAt, natureAt}
 use Rattle.writer.specs.Written.{inWriting}
+use Rattle.transforms.specs.Code.{hasRule}
 use Rattle.transforms.proofs.Passing.{stands}
 use Rattle.transforms.proofs.Lending.{used, lists-room}
 use Rattle.transforms.proofs.Listing.{Fine, fine, is-whole, fine-listed, alone-fails, bool-alone, alone-ruled}
@@ -43,7 +44,7 @@ lists-alone-requires c κs =
     let b = c .before .before .before .before .before .before .before .before .before .before .before .before .before .before in
     let ready = b .pre .0 .1 in
     let l = fine-listed (passes (c .before .before .before .before .before .before)) (whole (c .before .before .before .before .before)) in
-    ((l, ready .some-column, ready .within), used l l (b .pre .1))
+    ((l, ready .some-column, ready .within, b .pre .0 .2), used l l (b .pre .1))
 
 returns-3 : tie.Need-returns-3
 returns-3 c =
@@ -52,7 +53,7 @@ returns-3 c =
     let F = formOf (a .f) in
     let x = passes (c .before .before .before .before .before .before .before .before .before .before .before .before .before .before .before) in
     let is = whole (c .before .before .before .before .before .before .before .before .before .before .before .before .before .before) in
-    let e = alone-ruled (F .categoryLimit) (a .c) (a .data-type) (a .columns) x is (b .pre .0 .2) in
+    let e = alone-ruled (F .categoryLimit) (a .c) (a .data-type) (a .columns) x is (ap hasRule (b .pre .0 .2)) in
     (c .before .before .before .before .before .before .before .before .lists-alone .ensures .0 ∙ ap (inWriting F) (sym e), rw (lists-room (fine-listed x is) (fine-listed x is)) (c .before .before .before .before .before .before .before .before .lists-alone .ensures .1))
 
 pub propagate-unary-categorical-nature-spec : {M : Type 1} → statement M

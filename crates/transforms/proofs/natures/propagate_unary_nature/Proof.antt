@@ -7,7 +7,7 @@ use Rattle.base.specs.Form.{formOf, isRangeNature}
 use Rattle.base.specs.Decode.{natureIn}
 use Rattle.base.proofs.Forms.{laid}
 use Rattle.writer.specs.Written.{inWriting}
-use Rattle.transforms.specs.Code.{Lists, arraysRoom}
+use Rattle.transforms.specs.Code.{Lists, arraysRoom, hasRule}
 use Rattle.transforms.proofs.Passing.{stands}
 use Rattle.transforms.proofs.Lending.{range-room, ends-room, wider}
 use Rattle.transforms.proofs.Sorted.{number-of, alone-absent, alone-range, alone-lists}
@@ -43,7 +43,7 @@ returns-2 c =
     let F = formOf (a .f) in
     let k = d .before .before .before .before .before .before .nature-of .ensures in
     let range = rw k at (sym (d .before .before .before .before .is-range .ensures) ∙ d .before .before .before .if2 .taken) in
-    let e = alone-range (F .categoryLimit) (a .c) (a .data-type) (a .columns) (b .pre .0 .2) F (now (a .s)) range in
+    let e = alone-range (F .categoryLimit) (a .c) (a .data-type) (a .columns) (ap hasRule (b .pre .0 .2)) F (now (a .s)) range in
     ((rw k at (d .range-pair .ensures .0)) ∙ ap (inWriting F) (sym e), wider F _ _ (ends-room (laid (a .f)) (now (a .s)) (now (a .s))) (d .range-pair .result) (d .range-pair .ensures .1))
 
 -- neither absent nor a range
