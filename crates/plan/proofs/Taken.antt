@@ -8,13 +8,14 @@
 --     plan-begun                                          what the leaves say: a refusal, or the steps are next
 --     step-lent, left-joins                               what a step is lent: the category stores, or it does not use them
 -- Assumes nothing.
-use mathlib.Core.Path.{_≡_, refl, sym, ap, _∙_}
+use mathlib.Core.Path.{_≡_, refl, sym, ap, subst, _∙_}
 use mathlib.Core.Bool.{Bool, true, false, cond}
 use mathlib.Core.List.{List, _++_}
 use Prim.Native.Nat.{ℕ, suc, _+_, _-_, _≤_, _<_}
 use native.Mathlib.Omega.{arith}
 use lib.IntN.{ℤ}
 use lib.ListN.{length, take, drop, take-append-drop}
+use lib.Dec.{T}
 use borrow.Author.Tests.{ne-eqb, lt-ltb, le-ltb}
 use Rattle.bytes.specs.declared.Put.{Put}
 use Rattle.bytes.specs.declared.Put.the-variants as U
@@ -24,6 +25,8 @@ use Rattle.base.specs.Checks.{read}
 use Rattle.base.specs.Code.{codeOf}
 use Rattle.base.specs.Components.{componentOf}
 use Rattle.base.specs.declared.Component.{Component}
+use Rattle.base.specs.declared.Family.{Family}
+use Rattle.base.specs.declared.Family.the-variants as Fam
 use Rattle.base.specs.declared.Numbered.the-variants as N
 use Rattle.base.proofs.Passed.{read-ok}
 use Rattle.base.proofs.Flags.{and-both}
@@ -86,17 +89,19 @@ sheet-fits :
 sheet-fits F true h l = let any = l refl in omega arith
 sheet-fits F false h l = h
 
-module _ {F : Form} {left right hints first second scratch : List ℕ} {us bs store : List ℤ} where
-  pub step-lent : Rooms F first second scratch → (joinsLists F left right ≡ true → Large F us bs store hints first second scratch)
-      → Buffers F left right first second scratch × Lent F left right us bs store hints first second
+module _ {m : Family} {F : Form} {left right hints first second scratch : List ℕ} {us bs store : List ℤ} where
+  pub step-lent : Rooms F first second scratch → (joinsLists m F left right ≡ true → Large F us bs store hints first second scratch)
+      → Buffers m F left right first second scratch × Lent m F left right us bs store hints first second
   step-lent rooms large = (
-    record { first-room = rooms .first-room; second-room = rooms .second-room; sheet-room = sheet-fits F (joinsLists F left right) (rooms .sheet-room) (λ e. large e .sheet-room) },
+    record { first-room = rooms .first-room; second-room = rooms .second-room; sheet-room = sheet-fits F (joinsLists m F left right) (rooms .sheet-room) (λ e. large e .sheet-room) },
     record { stores = λ e. large e .stores; arrays = λ e. large e .arrays },
   )
 
 -- left alone decides where it holds no lists
-pub left-joins : (F : Form) (left right : List ℕ) → joinsLists F left right ≡ true → holdsLists F left ≡ true
-left-joins F left right e = and-both (holdsLists F left) (holdsLists F right) e .0
+pub left-joins : (m : Family) (F : Form) (left right : List ℕ) → joinsLists m F left right ≡ true → holdsLists F left ≡ true
+left-joins Fam.Unary F left right e = e
+left-joins Fam.Pair F left right e = and-both (holdsLists F left) (holdsLists F right) e .0
+left-joins Fam.Copy F left right e = absurd (subst T (sym e) tt)
 
 -- ---- n nodes, from node k on
 

@@ -1,47 +1,77 @@
 -- What a step is lent: the category stores, where whole categories are mapped or combined, and two buffers for the derived nature.
---     joined, used          two sheets of whole categories are joined, so that the stores are there
---     lent-alone            a mapping is lent left's store for both operands
---     range-room            the buffers have room for a range of every column
---     ends-room, lists-room the arrays of a range, and of categories, keep to the room of a derived nature
---     wider                 what keeps to a room keeps to a greater one
+--     none-held                            left alone decides where it holds no lists
+--     used, used-alone                     whole categories are combined or mapped, so that the stores are there
+--     lent-alone                           a mapping is lent left's store for both operands
+--     range-room                           the buffers have room for a range of every column
+--     ends-room, lists-room, alone-room    the arrays of a range, and of categories, keep to the room of a derived nature
+--     wider                                what keeps to a room keeps to a greater one
 -- Assumes nothing.
-use mathlib.Core.Path.{_≡_, refl, ap}
+use mathlib.Core.Path.{_≡_, refl, sym, ap, subst}
 use mathlib.Core.Bool.{Bool, true, false, cond}
 use mathlib.Core.List.{List}
 use Prim.Native.Nat.{ℕ, _*_, _≤_}
 use native.Mathlib.Omega.{arith}
 use lib.IntN.{ℤ}
 use lib.ListN.{length}
+use lib.Dec.{T}
 use borrow.Author.Tests.{le-leb}
 use Rattle.base.specs.Form.{Form, Laid}
+use Rattle.base.specs.Components.{isUnary}
+use Rattle.base.specs.declared.Family.{Family}
+use Rattle.base.specs.declared.Family.the-variants as Fam
 use Rattle.base.proofs.Passed.{passed, long-enough}
 use Rattle.writer.specs.Written.{endsRoom, listsRoom, Within}
 use Rattle.writer.specs.declared.Derived.{Derived}
 use Rattle.writer.specs.declared.Derived.the-variants as D
 use Rattle.categories.specs.Answers.{Stores, Arrays}
 use Rattle.categories.specs.Columnwise.{Listed}
-use Rattle.transforms.specs.Code.{Ready, holdsLists, joinsLists, arraysRoom, Lent}
+use Rattle.transforms.specs.Code.{Ready, holdsLists, joinsLists, arraysRoom, Lent, Buffers}
 
 listed-held : {F : Form} {s : List ℕ} → Listed F s → holdsLists F s ≡ true
 listed-held {F} {s} l = rw (le-leb (F .arraysAt) (length s) (long-enough (passed F s (l .passed))), l .nature)
 
-module _ {F : Form} {left right : List ℕ} (l : Listed F left) (r : Listed F right) where
-  pub joined : joinsLists F left right ≡ true
-  joined = rw (listed-held l, listed-held r)
+-- left alone decides where it holds no lists
+pub none-held : (m : Family) (F : Form) (left right : List ℕ) → holdsLists F left ≡ false → false ≡ joinsLists m F left right
+none-held Fam.Unary F left right e = sym e
+none-held Fam.Pair F left right e = rw e
+none-held Fam.Copy F left right e = refl
 
-  pub used : {us bs store : List ℤ} {hints first second : List ℕ} → Lent F left right us bs store hints first second → Stores F us bs store hints × Arrays F first second
+-- two sheets of whole categories are combined
+module _ {m : Family} (e : m ≡ Fam.Pair) {F : Form} {left right : List ℕ} (l : Listed F left) (r : Listed F right) where
+  joined : joinsLists m F left right ≡ true
+  joined = rw (e, listed-held l, listed-held r)
+
+  pub used : {us bs store : List ℤ} {hints first second : List ℕ} → Lent m F left right us bs store hints first second → Stores F us bs store hints × Arrays F first second
   used lent = (lent .stores joined, lent .arrays joined)
 
-  pub lists-room : arraysRoom F left right ≡ listsRoom F
+  pub lists-room : arraysRoom m F left right ≡ listsRoom F
   lists-room = ap (λ (b : Bool). cond b (listsRoom F) (endsRoom F)) joined
 
+-- one is mapped
+module _ {m : Family} (e : m ≡ Fam.Unary) {F : Form} {left : List ℕ} (l : Listed F left) where
+  alone : joinsLists m F left left ≡ true
+  alone = rw (e, listed-held l)
+
+  pub used-alone : {us bs store : List ℤ} {hints first second : List ℕ} → Lent m F left left us bs store hints first second → Stores F us bs store hints × Arrays F first second
+  used-alone lent = (lent .stores alone, lent .arrays alone)
+
+  pub alone-room : arraysRoom m F left left ≡ listsRoom F
+  alone-room = ap (λ (b : Bool). cond b (listsRoom F) (endsRoom F)) alone
+
+-- what a step is lent, where it reads one operand
 pub lent-alone :
-    {F : Form} {left : List ℕ} {us bs store : List ℤ} {hints first second : List ℕ} → Lent F left left us bs store hints first second
-    → Lent F left left us us store hints first second
-lent-alone lent = record {
-  stores = λ h. let s = lent .stores h in record { lefts = s .lefts; rights = s .lefts; results = s .results; hinted = s .hinted };
-  arrays = lent .arrays;
-}
+    {F : Form} {left right first second out : List ℕ} {us bs store : List ℤ} {hints : List ℕ} (m : Family) → m ≡ Fam.Unary
+    → Buffers m F left right first second out × Lent m F left right us bs store hints first second
+    → Buffers m F left left first second out × Lent m F left left us us store hints first second
+lent-alone Fam.Unary e p = (
+  record { first-room = p .0 .first-room; second-room = p .0 .second-room; sheet-room = p .0 .sheet-room },
+  record {
+    stores = λ h. let s = p .1 .stores h in record { lefts = s .lefts; rights = s .lefts; results = s .results; hinted = s .hinted };
+    arrays = p .1 .arrays;
+  },
+)
+lent-alone Fam.Pair e p = absurd (subst T (sym (ap isUnary e)) tt)
+lent-alone Fam.Copy e p = absurd (subst T (sym (ap isUnary e)) tt)
 
 pub range-room :
     {F : Form} {columns : ℕ} {first second : List ℕ} → Ready F columns first second → Laid F → (9 * columns ≤ length first) × (9 * columns ≤ length second)
@@ -51,8 +81,8 @@ least : (b : Bool) {x y : ℕ} → y ≤ x → y ≤ cond b x y
 least true h = h
 least false h = omega arith
 
-pub ends-room : {F : Form} → Laid F → (left right : List ℕ) → endsRoom F ≤ arraysRoom F left right
-ends-room {F} laid left right = least (joinsLists F left right) (laid .rangesShorter)
+pub ends-room : {F : Form} → Laid F → (m : Family) (left right : List ℕ) → endsRoom F ≤ arraysRoom m F left right
+ends-room {F} laid m left right = least (joinsLists m F left right) (laid .rangesShorter)
 
 pub wider : (F : Form) {a b : ℕ} (first second : List ℕ) → a ≤ b → (d : Derived) → Within F a first second d → Within F b first second d
 wider F first second h (D.Nature p) z = record { entries = z .entries; values = z .values; first-held = z .first-held; second-held = z .second-held; both = omega arith }

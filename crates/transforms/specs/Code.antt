@@ -12,7 +12,7 @@ use Rattle.bytes.specs.declared.Put.the-variants as U
 use Rattle.numbers.specs.Result.{Result, ok, refused}
 use Rattle.base.specs.Form.{Form, byteAt, natureAt, absentNature, wholeListsNature, isRangeNature, intType, entriesAt}
 use Rattle.base.specs.Checks.{sizesFail, fieldsFail}
-use Rattle.base.specs.Components.{familyOf, isUnary}
+use Rattle.base.specs.Components.{familyOf}
 use Rattle.base.specs.declared.Component.{Component}
 use Rattle.base.specs.declared.Family.{Family}
 use Rattle.base.specs.declared.Family.the-variants as Fam
@@ -38,27 +38,26 @@ pub record Ready (F : Form) (columns : ℕ) (first second : List ℕ) : Type 0 w
 abbrev pub holdsLists : Form → List ℕ → Bool
 holdsLists F s = leb (F .arraysAt) (length s) && eqb (byteAt F natureAt s) wholeListsNature
 
--- both operands are; of Abs and Negative the one operand is both
-abbrev pub joinsLists : Form → List ℕ → List ℕ → Bool
-joinsLists F left right = holdsLists F left && holdsLists F right
-
-abbrev pub secondOf : Family → List ℕ → List ℕ → List ℕ
-secondOf family left right = cond (isUnary family) left right
+-- whether a step maps or combines categories. Modulo, Log and Power never do: 15 or 22 comes first
+abbrev pub joinsLists : Family → Form → List ℕ → List ℕ → Bool
+joinsLists Fam.Unary F left right = holdsLists F left
+joinsLists Fam.Pair F left right = holdsLists F left && holdsLists F right
+joinsLists Fam.Copy F left right = false
 
 -- the bytes that the derived nature's arrays have at most
-abbrev pub arraysRoom : Form → List ℕ → List ℕ → ℕ
-arraysRoom F left right = cond (joinsLists F left right) (listsRoom F) (endsRoom F)
+abbrev pub arraysRoom : Family → Form → List ℕ → List ℕ → ℕ
+arraysRoom m F left right = cond (joinsLists m F left right) (listsRoom F) (endsRoom F)
 
 -- the category stores, and room for as many categories as a sheet may hold: lent where they are used
-pub record Lent (F : Form) (left right : List ℕ) (us bs store : List ℤ) (hints first second : List ℕ) : Type 0 where
-  pub stores : joinsLists F left right ≡ true → Stores F us bs store hints
-  pub arrays : joinsLists F left right ≡ true → Arrays F first second
+pub record Lent (m : Family) (F : Form) (left right : List ℕ) (us bs store : List ℤ) (hints first second : List ℕ) : Type 0 where
+  pub stores : joinsLists m F left right ≡ true → Stores F us bs store hints
+  pub arrays : joinsLists m F left right ≡ true → Arrays F first second
 
 -- what every step is lent: two buffers that hold the ends of a range, and a scratch for the sheet
-pub record Buffers (F : Form) (left right first second out : List ℕ) : Type 0 where
+pub record Buffers (m : Family) (F : Form) (left right first second out : List ℕ) : Type 0 where
   pub first-room : 9 * F .listLimit ≤ length first
   pub second-room : 9 * F .listLimit ≤ length second
-  pub sheet-room : entriesAt F (F .groupLimit) + arraysRoom F left right ≤ length out
+  pub sheet-room : entriesAt F (F .groupLimit) + arraysRoom m F left right ≤ length out
 
 -- Modulo, Log and Power of type Int: the rules for categories that Modulo and Power have are on this type
 abbrev pub isIntCopy : Family → ℕ → Bool

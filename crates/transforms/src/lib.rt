@@ -26,7 +26,7 @@ ghost use Rattle.base.specs.declared.Family.the-variants as Fam;
 ghost use Rattle.shape.specs.Fields.{withNode};
 ghost use Rattle.transforms.specs.Derive.{deriveUnary, derivePair, deriveCopy};
 ghost use Rattle.transforms.specs.Single.{step, delivery};
-ghost use Rattle.transforms.specs.Code.{Read, holdsLists, joinsLists, secondOf, Buffers, Lent, stepIn, Held, given, refusalOf};
+ghost use Rattle.transforms.specs.Code.{Read, holdsLists, joinsLists, Buffers, Lent, stepIn, Held, given, refusalOf};
 
 mod natures;
 
@@ -42,15 +42,17 @@ pub fn holds_lists(f: Form, s: &[u8]) -> bool
 
 // Whether a step maps or combines categories: only then does it use the stores that it is lent.
 pub fn joins_lists(f: Form, c: Component, left: &[u8], right: &[u8]) -> bool
-    ensures { λ r. ⌜ r ≡ joinsLists (formOf f) (now (left .entry)) (secondOf (familyOf c) (now (left .entry)) (now (right .entry))) ⌝ }
+    ensures { λ r. ⌜ r ≡ joinsLists (familyOf c) (formOf f) (now (left .entry)) (now (right .entry)) ⌝ }
 {
     if !holds_lists(f, left) {
         return false;
     }
-    if c.family().is_unary() {
-        return true;
+    let family = c.family();
+    match family {
+        Family::Unary => true,
+        Family::Pair => holds_lists(f, right),
+        Family::Copy => false,
     }
-    holds_lists(f, right)
 }
 
 // The refusal that a derived nature is.
@@ -76,7 +78,7 @@ fn step_unary(
     out: &mut [u8],
 ) -> Put
     requires { ⌜ Read (formOf f) (now left) × (familyOf c ≡ Fam.Unary) ⌝ }
-    requires { ⌜ Buffers (formOf f) (now left) (now left) (now first) (now second) (now out) × Lent (formOf f) (now left) (now left) (now us) (now us) (now store) (now hints) (now first) (now second) ⌝ }
+    requires { ⌜ Buffers (familyOf c) (formOf f) (now left) (now left) (now first) (now second) (now out) × Lent (familyOf c) (formOf f) (now left) (now left) (now us) (now us) (now store) (now hints) (now first) (now second) ⌝ }
     ensures { λ r. ⌜ (stepIn r (now (out .exit)) ≡ andThen (deriveUnary (formOf f .categoryLimit) c (decode (formOf f) (now (left .entry)))) (λ s. ok (encode (formOf f) s))) × Held r (length (now (out .entry))) ⌝ }
 {
     let h = base::read_head(f, left);
@@ -150,7 +152,7 @@ fn step_pair(
     out: &mut [u8],
 ) -> Put
     requires { ⌜ Read (formOf f) (now left) × Read (formOf f) (now right) × (familyOf c ≡ Fam.Pair) ⌝ }
-    requires { ⌜ Buffers (formOf f) (now left) (now right) (now first) (now second) (now out) × Lent (formOf f) (now left) (now right) (now us) (now bs) (now store) (now hints) (now first) (now second) ⌝ }
+    requires { ⌜ Buffers (familyOf c) (formOf f) (now left) (now right) (now first) (now second) (now out) × Lent (familyOf c) (formOf f) (now left) (now right) (now us) (now bs) (now store) (now hints) (now first) (now second) ⌝ }
     ensures { λ r. ⌜ (stepIn r (now (out .exit)) ≡ andThen (derivePair (formOf f .categoryLimit) c (decode (formOf f) (now (left .entry))) (decode (formOf f) (now (right .entry)))) (λ s. ok (encode (formOf f) (withNode (pos node) s)))) × Held r (length (now (out .entry))) ⌝ }
 {
     let l = base::read_head(f, left);
@@ -208,7 +210,7 @@ fn step_copy(
     out: &mut [u8],
 ) -> Put
     requires { ⌜ Read (formOf f) (now left) × Read (formOf f) (now right) × (familyOf c ≡ Fam.Copy) ⌝ }
-    requires { ⌜ Buffers (formOf f) (now left) (now right) (now first) (now second) (now out) × Lent (formOf f) (now left) (now right) (now us) (now bs) (now store) (now hints) (now first) (now second) ⌝ }
+    requires { ⌜ Buffers (familyOf c) (formOf f) (now left) (now right) (now first) (now second) (now out) × Lent (familyOf c) (formOf f) (now left) (now right) (now us) (now bs) (now store) (now hints) (now first) (now second) ⌝ }
     ensures { λ r. ⌜ (stepIn r (now (out .exit)) ≡ andThen (deriveCopy (formOf f .categoryLimit) c (decode (formOf f) (now (left .entry))) (decode (formOf f) (now (right .entry)))) (λ s. ok (encode (formOf f) s))) × Held r (length (now (out .entry))) ⌝ }
 {
     let l = base::read_head(f, left);
@@ -269,7 +271,7 @@ pub fn step(
     hints: &mut [u8],
     out: &mut [u8],
 ) -> Put
-    requires { ⌜ Buffers (formOf f) (now left) (secondOf (familyOf c) (now left) (now right)) (now first) (now second) (now out) × Lent (formOf f) (now left) (secondOf (familyOf c) (now left) (now right)) (now us) (now bs) (now store) (now hints) (now first) (now second) ⌝ }
+    requires { ⌜ Buffers (familyOf c) (formOf f) (now left) (now right) (now first) (now second) (now out) × Lent (familyOf c) (formOf f) (now left) (now right) (now us) (now bs) (now store) (now hints) (now first) (now second) ⌝ }
     ensures { λ r. ⌜ (stepIn r (now (out .exit)) ≡ step (formOf f) c node (now (left .entry)) (now (right .entry))) × Held r (length (now (out .entry))) ⌝ }
 {
     let k = base::check_sheet(f, left);

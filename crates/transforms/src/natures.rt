@@ -75,8 +75,8 @@ fn propagate_binary_categorical_nature(
     second: &mut [u8],
 ) -> Derived
     requires { ⌜ Lists (formOf f) (now left) × Lists (formOf f) (now right) × Ready (formOf f) columns (now first) (now second) × Reached (formOf f) c data_type (now right) × (isUnary (familyOf c) ≡ false) ⌝ }
-    requires { ⌜ Lent (formOf f) (now left) (now right) (now us) (now bs) (now store) (now hints) (now first) (now second) ⌝ }
-    ensures { λ r. ⌜ (derivedIn r (now (first .exit)) (now (second .exit)) ≡ inWriting (formOf f) (listsPair (formOf f .categoryLimit) c data_type columns (natureIn (formOf f) (now (left .entry))) (natureIn (formOf f) (now (right .entry))))) × Within (formOf f) (arraysRoom (formOf f) (now (left .entry)) (now (right .entry))) (now (first .exit)) (now (second .exit)) r ⌝ }
+    requires { ⌜ Lent (familyOf c) (formOf f) (now left) (now right) (now us) (now bs) (now store) (now hints) (now first) (now second) ⌝ }
+    ensures { λ r. ⌜ (derivedIn r (now (first .exit)) (now (second .exit)) ≡ inWriting (formOf f) (listsPair (formOf f .categoryLimit) c data_type columns (natureIn (formOf f) (now (left .entry))) (natureIn (formOf f) (now (right .entry))))) × Within (formOf f) (arraysRoom (familyOf c) (formOf f) (now (left .entry)) (now (right .entry))) (now (first .exit)) (now (second .exit)) r ⌝ }
 {
     let x = base::nature_of(f, left);
     let y = base::nature_of(f, right);
@@ -128,8 +128,8 @@ fn propagate_unary_categorical_nature(
     second: &mut [u8],
 ) -> Derived
     requires { ⌜ Lists (formOf f) (now s) × Ready (formOf f) columns (now first) (now second) × (familyOf c ≡ Fam.Unary) ⌝ }
-    requires { ⌜ Lent (formOf f) (now s) (now s) (now us) (now us) (now store) (now hints) (now first) (now second) ⌝ }
-    ensures { λ r. ⌜ (derivedIn r (now (first .exit)) (now (second .exit)) ≡ inWriting (formOf f) (listsAlone (formOf f .categoryLimit) c data_type columns (natureIn (formOf f) (now (s .entry))))) × Within (formOf f) (arraysRoom (formOf f) (now (s .entry)) (now (s .entry))) (now (first .exit)) (now (second .exit)) r ⌝ }
+    requires { ⌜ Lent (familyOf c) (formOf f) (now s) (now s) (now us) (now us) (now store) (now hints) (now first) (now second) ⌝ }
+    ensures { λ r. ⌜ (derivedIn r (now (first .exit)) (now (second .exit)) ≡ inWriting (formOf f) (listsAlone (formOf f .categoryLimit) c data_type columns (natureIn (formOf f) (now (s .entry))))) × Within (formOf f) (arraysRoom (familyOf c) (formOf f) (now (s .entry)) (now (s .entry))) (now (first .exit)) (now (second .exit)) r ⌝ }
 {
     let x = base::nature_of(f, s);
     let sizes = base::sizes_at(f, s);
@@ -158,8 +158,8 @@ pub fn propagate_binary_nature(
     second: &mut [u8],
 ) -> Derived
     requires { ⌜ Read (formOf f) (now left) × Read (formOf f) (now right) × Ready (formOf f) columns (now first) (now second) × Reached (formOf f) c data_type (now right) × (isUnary (familyOf c) ≡ false) ⌝ }
-    requires { ⌜ Lent (formOf f) (now left) (now right) (now us) (now bs) (now store) (now hints) (now first) (now second) ⌝ }
-    ensures { λ r. ⌜ (derivedIn r (now (first .exit)) (now (second .exit)) ≡ inWriting (formOf f) (binaryNature (formOf f .categoryLimit) c data_type columns (natureIn (formOf f) (now (left .entry))) (natureIn (formOf f) (now (right .entry))))) × Within (formOf f) (arraysRoom (formOf f) (now (left .entry)) (now (right .entry))) (now (first .exit)) (now (second .exit)) r ⌝ }
+    requires { ⌜ Lent (familyOf c) (formOf f) (now left) (now right) (now us) (now bs) (now store) (now hints) (now first) (now second) ⌝ }
+    ensures { λ r. ⌜ (derivedIn r (now (first .exit)) (now (second .exit)) ≡ inWriting (formOf f) (binaryNature (formOf f .categoryLimit) c data_type columns (natureIn (formOf f) (now (left .entry))) (natureIn (formOf f) (now (right .entry))))) × Within (formOf f) (arraysRoom (familyOf c) (formOf f) (now (left .entry)) (now (right .entry))) (now (first .exit)) (now (second .exit)) r ⌝ }
 {
     let x = base::nature_of(f, left);
     let y = base::nature_of(f, right);
@@ -221,8 +221,8 @@ pub fn propagate_unary_nature(
     second: &mut [u8],
 ) -> Derived
     requires { ⌜ Read (formOf f) (now s) × Ready (formOf f) columns (now first) (now second) × (familyOf c ≡ Fam.Unary) ⌝ }
-    requires { ⌜ Lent (formOf f) (now s) (now s) (now us) (now us) (now store) (now hints) (now first) (now second) ⌝ }
-    ensures { λ r. ⌜ (derivedIn r (now (first .exit)) (now (second .exit)) ≡ inWriting (formOf f) (unaryNature (formOf f .categoryLimit) c data_type columns (natureIn (formOf f) (now (s .entry))))) × Within (formOf f) (arraysRoom (formOf f) (now (s .entry)) (now (s .entry))) (now (first .exit)) (now (second .exit)) r ⌝ }
+    requires { ⌜ Lent (familyOf c) (formOf f) (now s) (now s) (now us) (now us) (now store) (now hints) (now first) (now second) ⌝ }
+    ensures { λ r. ⌜ (derivedIn r (now (first .exit)) (now (second .exit)) ≡ inWriting (formOf f) (unaryNature (formOf f .categoryLimit) c data_type columns (natureIn (formOf f) (now (s .entry))))) × Within (formOf f) (arraysRoom (familyOf c) (formOf f) (now (s .entry)) (now (s .entry))) (now (first .exit)) (now (second .exit)) r ⌝ }
 {
     let x = base::nature_of(f, s);
     if x == form::ABSENT_NATURE {

@@ -11,7 +11,7 @@ use Rattle.base.specs.Form.{narrow}
 use Rattle.base.specs.Components.{componentOf, familyOf}
 use Rattle.base.specs.declared.Family.{Family}
 use Rattle.transforms.specs.Single.{step, delivery}
-use Rattle.transforms.specs.Code.{holdsLists, secondOf}
+use Rattle.transforms.specs.Code.{holdsLists}
 use Rattle.plan.specs.Form.{leftOf, rightOf}
 use Rattle.plan.specs.Walk.{slotAt, sheetIn}
 use Rattle.plan.proofs.Parts.{part-lent, part-back}
@@ -58,7 +58,7 @@ step-requires : tie.Need-step-requires
 step-requires c κs =
     let e = c .before .before .before .before .before .before .before .before .before in
     let s = start e in
-    step-lent (s .pre .0 .1) (λ j. s .pre .1 (subst (λ (l : List ℕ). holdsLists narrow l ≡ true) (left-sheet e) (left-joins narrow (left-part e) (secondOf (family e) (left-part e) (right-part e)) j)))
+    step-lent (s .pre .0 .1) (λ j. s .pre .1 (subst (λ (l : List ℕ). holdsLists narrow l ≡ true) (left-sheet e) (left-joins (family e) narrow (left-part e) (right-part e) j)))
 
 -- its own slot begins within the work buffer
 sub-deliver-sheet : tie.Need-sub-deliver-sheet

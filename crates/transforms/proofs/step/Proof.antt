@@ -1,26 +1,13 @@
 -- `transforms::step` meets its contract. Assumes nothing.
-use mathlib.Core.Path.{_≡_, sym, ap, subst, _∙_}
-use mathlib.Core.List.{List}
-use Prim.Native.Nat.{ℕ}
-use lib.IntN.{ℤ}
+use mathlib.Core.Path.{sym, ap, _∙_}
 use denote.Ref.{now}
 use borrow.Author.Needs.{needs}
-use Rattle.base.specs.Form.{Form, formOf}
-use Rattle.base.specs.declared.Family.{Family}
-use Rattle.base.specs.Components.{isUnary}
-use Rattle.transforms.specs.Code.{secondOf, Buffers, Lent}
+use Rattle.base.specs.Form.{formOf}
+use Rattle.base.specs.Components.{familyOf, isUnary}
 use Rattle.transforms.proofs.Lending.{lent-alone}
 use Rattle.transforms.proofs.Delivered.{was-read, right-was-read, step-left-refused, step-right-refused, step-alone, step-paired, step-copied}
 use Rattle.transforms.proofs.step.Statement.{statement}
 use Rattle.transforms.proofs.step.Tie as tie
-
--- what the step is lent, once the family is known
-for-family :
-    (F : Form) (left right first second out : List ℕ) (us bs store : List ℤ) (hints : List ℕ) {m n : Family} → m ≡ n
-    → Buffers F left (secondOf m left right) first second out × Lent F left (secondOf m left right) us bs store hints first second
-    → Buffers F left (secondOf n left right) first second out × Lent F left (secondOf n left right) us bs store hints first second
-for-family F left right first second out us bs store hints =
-    subst (λ (k : Family). Buffers F left (secondOf k left right) first second out × Lent F left (secondOf k left right) us bs store hints first second)
 
 returns : tie.Need-returns
 returns c =
@@ -44,10 +31,8 @@ step-unary-requires c κs =
     let left = family .before .before in
     let start = left .before .before .before .before .before .before .before in
     let a = start .args in
-    let p = start .pre in
     let e = sym (family .family .ensures) ∙ c .before .before .before .before .before .before .enum-told .given .1 in
-    let lent = for-family (formOf (a .f)) (now (a .left)) (now (a .right)) (now (a .first)) (now (a .second)) (now (a .out)) (now (a .us)) (now (a .bs)) (now (a .store)) (now (a .hints)) e p in
-    ((was-read (formOf (a .f)) (now (a .left)) (left .check-sheet .ensures) (family .before .if1 .left), e), (lent .0, lent-alone (lent .1)))
+    ((was-read (formOf (a .f)) (now (a .left)) (left .check-sheet .ensures) (family .before .if1 .left), e), lent-alone (familyOf (a .c)) e (start .pre))
 
 step-pair-requires : tie.Need-step-pair-requires
 step-pair-requires c κs =
@@ -62,7 +47,7 @@ step-pair-requires c κs =
         right-was-read (formOf (a .f)) (now (a .right)) (family .family .result) (right .right-code .ensures) (c .before .before .before .before .before .before .before .before .before .if2 .left) (ap isUnary told),
         sym (family .family .ensures) ∙ told,
       ),
-      for-family (formOf (a .f)) (now (a .left)) (now (a .right)) (now (a .first)) (now (a .second)) (now (a .out)) (now (a .us)) (now (a .bs)) (now (a .store)) (now (a .hints)) (sym (family .family .ensures) ∙ told) (start .pre),
+      start .pre,
     )
 
 step-copy-requires : tie.Need-step-copy-requires
@@ -78,7 +63,7 @@ step-copy-requires c κs =
         right-was-read (formOf (a .f)) (now (a .right)) (family .family .result) (right .right-code .ensures) (c .before .before .before .before .before .before .before .before .before .if2 .left) (ap isUnary told),
         sym (family .family .ensures) ∙ told,
       ),
-      for-family (formOf (a .f)) (now (a .left)) (now (a .right)) (now (a .first)) (now (a .second)) (now (a .out)) (now (a .us)) (now (a .bs)) (now (a .store)) (now (a .hints)) (sym (family .family .ensures) ∙ told) (start .pre),
+      start .pre,
     )
 
 returns-3 : tie.Need-returns-3

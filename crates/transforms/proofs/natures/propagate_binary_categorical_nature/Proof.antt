@@ -6,6 +6,7 @@ use borrow.Author.Needs.{needs}
 use borrow.Author.Tests.{not-true, not-false}
 use Rattle.base.specs.Form.{formOf, byteAt, natureAt}
 use Rattle.base.specs.Components.{familyOf}
+use Rattle.base.specs.declared.Family.the-variants as Fam
 use Rattle.writer.specs.Written.{inWriting}
 use Rattle.transforms.specs.Code.{hasRule}
 use Rattle.transforms.proofs.Passing.{stands}
@@ -48,6 +49,9 @@ whole c = is-whole (left-passes (c .before .before .before .before .before)) (λ
 -- there is code for the rule
 has : (c : tie.Else5) → hasRule (familyOf (c .before .before .before .before .before .before .before .before .before .before .before .before .before .before .before .before .before .args .c)) ≡ true
 has c = sym (c .before .has-rule .ensures) ∙ not-false (c .before .has-rule .result) (c .if5 .left)
+
+pair : (c : tie.Else5) → familyOf (c .before .before .before .before .before .before .before .before .before .before .before .before .before .before .before .before .before .args .c) ≡ Fam.Pair
+pair c = let s = c .before .before .before .before .before .before .before .before .before .before .before .before .before .before .before .before .before in paired (familyOf (s .args .c)) (s .pre .0 .4) (has c)
 
 sizes-at-requires-2 : tie.Need-sizes-at-requires-2
 sizes-at-requires-2 c κs = stands (c .before .before .before .before .before .before .before .before .before .before .pre .0 .1 .read)
@@ -95,19 +99,20 @@ lists-pair-requires c κs =
     let ready = b .pre .0 .2 in
     let left = fine-listed (left-passes (c .before .before .before .before .before .before .before .before .before .before .before .before .before)) (whole (c .before .before .before .before .before .before .before .before)) in
     let right = fine-listed (right-passes (c .before .before .before .before .before .before .before .before .before .before)) (sym (equal (c .before .before .before .before .before .before .before .before .before)) ∙ whole (c .before .before .before .before .before .before .before .before)) in
-    let pair = paired (familyOf (b .args .c)) (b .pre .0 .4) (has (c .before .before .before .before .before .before)) in
-    ((left, right, ready .some-column, ready .within, pair), used left right (b .pre .1))
+    let p = pair (c .before .before .before .before .before .before) in
+    ((left, right, ready .some-column, ready .within, p), used p left right (b .pre .1))
 
 returns-6 : tie.Need-returns-6
 returns-6 c =
     let a = c .before .before .before .before .before .before .before .before .before .before .before .before .before .before .before .before .before .before .before .before .before .before .before .before .before .before .before .before .before .before .before .before .before .args in
     let F = formOf (a .f) in
+    let o = c .before .before .before .before .before .before .before .before .before .before .before .before .before .before .before .before in
     let f = left-passes (c .before .before .before .before .before .before .before .before .before .before .before .before .before .before .before .before .before .before .before .before .before .before .before) in
     let g = right-passes (c .before .before .before .before .before .before .before .before .before .before .before .before .before .before .before .before .before .before .before .before) in
     let same = equal (c .before .before .before .before .before .before .before .before .before .before .before .before .before .before .before .before .before .before .before) in
     let is = whole (c .before .before .before .before .before .before .before .before .before .before .before .before .before .before .before .before .before .before) in
-    let e = pair-ruled (F .categoryLimit) (a .c) (a .data-type) (a .columns) F (now (a .left)) (now (a .right)) f g same is (has (c .before .before .before .before .before .before .before .before .before .before .before .before .before .before .before .before)) in
-    (c .before .before .before .before .before .before .before .before .before .lists-pair .ensures .0 ∙ ap (inWriting F) (sym e), rw (lists-room (fine-listed f is) (fine-listed g (sym same ∙ is))) (c .before .before .before .before .before .before .before .before .before .lists-pair .ensures .1))
+    let e = pair-ruled (F .categoryLimit) (a .c) (a .data-type) (a .columns) F (now (a .left)) (now (a .right)) f g same is (has o) in
+    (c .before .before .before .before .before .before .before .before .before .lists-pair .ensures .0 ∙ ap (inWriting F) (sym e), rw (lists-room (pair o) (fine-listed f is) (fine-listed g (sym same ∙ is))) (c .before .before .before .before .before .before .before .before .before .lists-pair .ensures .1))
 
 pub propagate-binary-categorical-nature-spec : {M : Type 1} → statement M
 propagate-binary-categorical-nature-spec =

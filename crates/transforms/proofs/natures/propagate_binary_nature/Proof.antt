@@ -5,6 +5,7 @@ use borrow.Author.Needs.{needs}
 use borrow.Author.Tests.{ne-eqb}
 use Rattle.base.specs.Form.{formOf, isRangeNature}
 use Rattle.base.specs.Encode.{natureNumber}
+use Rattle.base.specs.Components.{familyOf}
 use Rattle.base.specs.Decode.{natureIn}
 use Rattle.base.proofs.Forms.{laid}
 use Rattle.writer.specs.Written.{inWriting}
@@ -37,7 +38,7 @@ returns c =
     let a = c .before .before .before .before .before .before .before .before .before .args in
     let F = formOf (a .f) in
     let e = absent-left (F .categoryLimit) (a .c) (a .data-type) (a .columns) (natureIn F (now (a .left))) (natureIn F (now (a .right))) (left-is (c .before .before) ∙ c .before .if1 .taken) in
-    let n = c .nothing-stated .ensures (arraysRoom F (now (a .left)) (now (a .right))) (now (a .first)) (now (a .second)) in
+    let n = c .nothing-stated .ensures (arraysRoom (familyOf (a .c)) F (now (a .left)) (now (a .right))) (now (a .first)) (now (a .second)) in
     (n .0 ∙ ap (inWriting F) (sym e), n .1)
 
 returns-2 : tie.Need-returns-2
@@ -45,7 +46,7 @@ returns-2 c =
     let a = c .before .before .before .before .before .before .before .before .before .before .args in
     let F = formOf (a .f) in
     let e = absent-right (F .categoryLimit) (a .c) (a .data-type) (a .columns) (natureIn F (now (a .left))) (natureIn F (now (a .right))) (right-is (c .before .before .before) ∙ c .before .if2 .taken) in
-    let n = c .nothing-stated2 .ensures (arraysRoom F (now (a .left)) (now (a .right))) (now (a .first)) (now (a .second)) in
+    let n = c .nothing-stated2 .ensures (arraysRoom (familyOf (a .c)) F (now (a .left)) (now (a .right))) (now (a .first)) (now (a .second)) in
     (n .0 ∙ ap (inWriting F) (sym e), n .1)
 
 returns-3 : tie.Need-returns-3
@@ -83,7 +84,7 @@ returns-4 c =
     let x = k .before .nature-of .ensures in
     let range = rw x at (sym (d .before .before .before .before .before .before .before .is-range .ensures) ∙ d .before .before .before .before .before .before .if3 .taken) in
     let e = both-ranges (F .categoryLimit) (a .c) (a .data-type) (a .columns) F (now (a .left)) (now (a .right)) range (sym x ∙ d .before .before .before .if5 .left ∙ k .nature-of2 .ensures) in
-    ((rw x at (d .range-pair .ensures .0)) ∙ ap (inWriting F) (sym e), wider F _ _ (ends-room (laid (a .f)) (now (a .left)) (now (a .right))) (d .range-pair .result) (d .range-pair .ensures .1))
+    ((rw x at (d .range-pair .ensures .0)) ∙ ap (inWriting F) (sym e), wider F _ _ (ends-room (laid (a .f)) (familyOf (a .c)) (now (a .left)) (now (a .right))) (d .range-pair .result) (d .range-pair .ensures .1))
 
 returns-5 : tie.Need-returns-5
 returns-5 c =
@@ -93,7 +94,7 @@ returns-5 c =
     let x = ap isRangeNature (left-is k) ∙ sym (c .before .before .before .before .is-range .ensures) ∙ c .before .before .before .if3 .taken in
     let y = ap isRangeNature (right-is k) ∙ sym (c .before .before .is-range2 .ensures) ∙ c .before .if4 .left in
     let e = range-with-lists (F .categoryLimit) (a .c) (a .data-type) (a .columns) (natureIn F (now (a .left))) (natureIn F (now (a .right))) x y in
-    let n = c .nothing-stated3 .ensures (arraysRoom F (now (a .left)) (now (a .right))) (now (a .first)) (now (a .second)) in
+    let n = c .nothing-stated3 .ensures (arraysRoom (familyOf (a .c)) F (now (a .left)) (now (a .right))) (now (a .first)) (now (a .second)) in
     (n .0 ∙ ap (inWriting F) (sym e), n .1)
 
 returns-6 : tie.Need-returns-6
@@ -104,7 +105,7 @@ returns-6 c =
     let x = ap isRangeNature (left-is k) ∙ sym (c .before .before .before .before .is-range .ensures) ∙ c .before .before .before .if3 .left in
     let y = ap isRangeNature (right-is k) ∙ sym (c .before .before .is-range3 .ensures) ∙ c .before .if6 .taken in
     let e = lists-with-range (F .categoryLimit) (a .c) (a .data-type) (a .columns) (natureIn F (now (a .left))) (natureIn F (now (a .right))) x y in
-    let n = c .nothing-stated4 .ensures (arraysRoom F (now (a .left)) (now (a .right))) (now (a .first)) (now (a .second)) in
+    let n = c .nothing-stated4 .ensures (arraysRoom (familyOf (a .c)) F (now (a .left)) (now (a .right))) (now (a .first)) (now (a .second)) in
     (n .0 ∙ ap (inWriting F) (sym e), n .1)
 
 -- neither operand is absent or a range

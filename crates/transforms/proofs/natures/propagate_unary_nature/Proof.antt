@@ -4,6 +4,7 @@ use denote.Ref.{now}
 use borrow.Author.Needs.{needs}
 use borrow.Author.Tests.{ne-eqb}
 use Rattle.base.specs.Form.{formOf, isRangeNature}
+use Rattle.base.specs.Components.{familyOf}
 use Rattle.base.specs.Decode.{natureIn}
 use Rattle.base.proofs.Forms.{laid}
 use Rattle.writer.specs.Written.{inWriting}
@@ -24,7 +25,7 @@ returns c =
     let F = formOf (a .f) in
     let s = now (a .s) in
     let e = alone-absent (F .categoryLimit) (a .c) (a .data-type) (a .columns) (natureIn F s) (number-of F s (b .pre .0 .0) ∙ sym (c .before .before .nature-of .ensures) ∙ c .before .if1 .taken) in
-    let n = c .nothing-stated .ensures (arraysRoom F (now (a .s)) (now (a .s))) (now (a .first)) (now (a .second)) in
+    let n = c .nothing-stated .ensures (arraysRoom (familyOf (a .c)) F (now (a .s)) (now (a .s))) (now (a .first)) (now (a .second)) in
     (n .0 ∙ ap (inWriting F) (sym e), n .1)
 
 range-pair-requires : tie.Need-range-pair-requires
@@ -44,7 +45,7 @@ returns-2 c =
     let k = d .before .before .before .before .before .before .nature-of .ensures in
     let range = rw k at (sym (d .before .before .before .before .is-range .ensures) ∙ d .before .before .before .if2 .taken) in
     let e = alone-range (F .categoryLimit) (a .c) (a .data-type) (a .columns) (ap hasRule (b .pre .0 .2)) F (now (a .s)) range in
-    ((rw k at (d .range-pair .ensures .0)) ∙ ap (inWriting F) (sym e), wider F _ _ (ends-room (laid (a .f)) (now (a .s)) (now (a .s))) (d .range-pair .result) (d .range-pair .ensures .1))
+    ((rw k at (d .range-pair .ensures .0)) ∙ ap (inWriting F) (sym e), wider F _ _ (ends-room (laid (a .f)) (familyOf (a .c)) (now (a .s)) (now (a .s))) (d .range-pair .result) (d .range-pair .ensures .1))
 
 -- neither absent nor a range
 listing : (c : tie.Else2) → Lists (formOf (c .before .before .before .before .before .before .before .before .args .f)) (now (c .before .before .before .before .before .before .before .before .args .s))
