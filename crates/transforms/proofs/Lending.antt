@@ -1,9 +1,10 @@
 -- What a step is lent: the category stores, where whole categories are mapped or combined, and two buffers for the derived nature.
 --     none-held                            left alone decides where it holds no lists
---     used, used-alone                     whole categories are combined or mapped, so that the stores are there
+--     joined, alone                        whole categories are combined or mapped
+--     used                                 so that the stores are there
 --     lent-alone                           a mapping is lent left's store for both operands
 --     range-room                           the buffers have room for a range of every column
---     ends-room, lists-room, alone-room    the arrays of a range, and of categories, keep to the room of a derived nature
+--     ends-room, lists-room                the arrays of a range, and of categories, keep to the room of a derived nature
 --     wider                                what keeps to a room keeps to a greater one
 -- Assumes nothing.
 use mathlib.Core.Path.{_≡_, refl, sym, ap, subst}
@@ -36,27 +37,21 @@ none-held Fam.Unary F left right e = sym e
 none-held Fam.Pair F left right e = rw e
 none-held Fam.Copy F left right e = refl
 
--- two sheets of whole categories are combined
-module _ {m : Family} (e : m ≡ Fam.Pair) {F : Form} {left right : List ℕ} (l : Listed F left) (r : Listed F right) where
-  joined : joinsLists m F left right ≡ true
-  joined = rw (e, listed-held l, listed-held r)
+-- two sheets of whole categories are combined, and one is mapped
+module _ {m : Family} {F : Form} where
+  pub joined : {left right : List ℕ} → m ≡ Fam.Pair → Listed F left → Listed F right → joinsLists m F left right ≡ true
+  joined e l r = rw (e, listed-held l, listed-held r)
 
-  pub used : {us bs store : List ℤ} {hints first second : List ℕ} → Lent m F left right us bs store hints first second → Stores F us bs store hints × Arrays F first second
-  used lent = (lent .stores joined, lent .arrays joined)
+  pub alone : {left : List ℕ} → m ≡ Fam.Unary → Listed F left → joinsLists m F left left ≡ true
+  alone e l = rw (e, listed-held l)
 
-  pub lists-room : arraysRoom m F left right ≡ listsRoom F
-  lists-room = ap (λ (b : Bool). cond b (listsRoom F) (endsRoom F)) joined
+pub used :
+    {m : Family} {F : Form} {left right : List ℕ} → joinsLists m F left right ≡ true
+    → {us bs store : List ℤ} {hints first second : List ℕ} → Lent m F left right us bs store hints first second → Stores F us bs store hints × Arrays F first second
+used e lent = (lent .stores e, lent .arrays e)
 
--- one is mapped
-module _ {m : Family} (e : m ≡ Fam.Unary) {F : Form} {left : List ℕ} (l : Listed F left) where
-  alone : joinsLists m F left left ≡ true
-  alone = rw (e, listed-held l)
-
-  pub used-alone : {us bs store : List ℤ} {hints first second : List ℕ} → Lent m F left left us bs store hints first second → Stores F us bs store hints × Arrays F first second
-  used-alone lent = (lent .stores alone, lent .arrays alone)
-
-  pub alone-room : arraysRoom m F left left ≡ listsRoom F
-  alone-room = ap (λ (b : Bool). cond b (listsRoom F) (endsRoom F)) alone
+pub lists-room : (m : Family) (F : Form) (left right : List ℕ) → joinsLists m F left right ≡ true → arraysRoom m F left right ≡ listsRoom F
+lists-room m F left right e = ap (λ (b : Bool). cond b (listsRoom F) (endsRoom F)) e
 
 -- what a step is lent, where it reads one operand
 pub lent-alone :

@@ -10,7 +10,7 @@ use Rattle.base.specs.declared.Family.the-variants as Fam
 use Rattle.writer.specs.Written.{inWriting}
 use Rattle.transforms.specs.Code.{hasRule}
 use Rattle.transforms.proofs.Passing.{stands}
-use Rattle.transforms.proofs.Lending.{used, lists-room}
+use Rattle.transforms.proofs.Lending.{joined, used, lists-room}
 use Rattle.transforms.proofs.Listing.{Fine, fine, is-whole, fine-listed, left-fails, right-fails, unequal-lists, bool-pair, no-rule, paired, pair-ruled}
 use Rattle.transforms.proofs.natures.propagate_binary_categorical_nature.Statement.{statement}
 use Rattle.transforms.proofs.natures.propagate_binary_categorical_nature.Tie as tie
@@ -100,7 +100,7 @@ lists-pair-requires c κs =
     let left = fine-listed (left-passes (c .before .before .before .before .before .before .before .before .before .before .before .before .before)) (whole (c .before .before .before .before .before .before .before .before)) in
     let right = fine-listed (right-passes (c .before .before .before .before .before .before .before .before .before .before)) (sym (equal (c .before .before .before .before .before .before .before .before .before)) ∙ whole (c .before .before .before .before .before .before .before .before)) in
     let p = pair (c .before .before .before .before .before .before) in
-    ((left, right, ready .some-column, ready .within, p), used p left right (b .pre .1))
+    ((left, right, ready .some-column, ready .within, p), used (joined p left right) (b .pre .1))
 
 returns-6 : tie.Need-returns-6
 returns-6 c =
@@ -112,7 +112,7 @@ returns-6 c =
     let same = equal (c .before .before .before .before .before .before .before .before .before .before .before .before .before .before .before .before .before .before .before) in
     let is = whole (c .before .before .before .before .before .before .before .before .before .before .before .before .before .before .before .before .before .before) in
     let e = pair-ruled (F .categoryLimit) (a .c) (a .data-type) (a .columns) F (now (a .left)) (now (a .right)) f g same is (has o) in
-    (c .before .before .before .before .before .before .before .before .before .lists-pair .ensures .0 ∙ ap (inWriting F) (sym e), rw (lists-room (pair o) (fine-listed f is) (fine-listed g (sym same ∙ is))) (c .before .before .before .before .before .before .before .before .before .lists-pair .ensures .1))
+    (c .before .before .before .before .before .before .before .before .before .lists-pair .ensures .0 ∙ ap (inWriting F) (sym e), rw (lists-room (familyOf (a .c)) F (now (a .left)) (now (a .right)) (joined (pair o) (fine-listed f is) (fine-listed g (sym same ∙ is)))) (c .before .before .before .before .before .before .before .before .before .lists-pair .ensures .1))
 
 pub propagate-binary-categorical-nature-spec : {M : Type 1} → statement M
 propagate-binary-categorical-nature-spec =

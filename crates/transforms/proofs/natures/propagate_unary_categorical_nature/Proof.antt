@@ -3,10 +3,11 @@ use mathlib.Core.Path.{_≡_, sym, ap, _∙_}
 use denote.Ref.{now}
 use borrow.Author.Needs.{needs}
 use Rattle.base.specs.Form.{formOf, byteAt, natureAt}
+use Rattle.base.specs.Components.{familyOf}
 use Rattle.writer.specs.Written.{inWriting}
 use Rattle.transforms.specs.Code.{hasRule}
 use Rattle.transforms.proofs.Passing.{stands}
-use Rattle.transforms.proofs.Lending.{used-alone, alone-room}
+use Rattle.transforms.proofs.Lending.{alone, used, lists-room}
 use Rattle.transforms.proofs.Listing.{Fine, fine, is-whole, fine-listed, alone-fails, bool-alone, alone-ruled}
 use Rattle.transforms.proofs.natures.propagate_unary_categorical_nature.Statement.{statement}
 use Rattle.transforms.proofs.natures.propagate_unary_categorical_nature.Tie as tie
@@ -44,7 +45,7 @@ lists-alone-requires c κs =
     let b = c .before .before .before .before .before .before .before .before .before .before .before .before .before .before in
     let ready = b .pre .0 .1 in
     let l = fine-listed (passes (c .before .before .before .before .before .before)) (whole (c .before .before .before .before .before)) in
-    ((l, ready .some-column, ready .within, b .pre .0 .2), used-alone (b .pre .0 .2) l (b .pre .1))
+    ((l, ready .some-column, ready .within, b .pre .0 .2), used (alone (b .pre .0 .2) l) (b .pre .1))
 
 returns-3 : tie.Need-returns-3
 returns-3 c =
@@ -54,7 +55,7 @@ returns-3 c =
     let x = passes (c .before .before .before .before .before .before .before .before .before .before .before .before .before .before .before) in
     let is = whole (c .before .before .before .before .before .before .before .before .before .before .before .before .before .before) in
     let e = alone-ruled (F .categoryLimit) (a .c) (a .data-type) (a .columns) x is (ap hasRule (b .pre .0 .2)) in
-    (c .before .before .before .before .before .before .before .before .lists-alone .ensures .0 ∙ ap (inWriting F) (sym e), rw (alone-room (b .pre .0 .2) (fine-listed x is)) (c .before .before .before .before .before .before .before .before .lists-alone .ensures .1))
+    (c .before .before .before .before .before .before .before .before .lists-alone .ensures .0 ∙ ap (inWriting F) (sym e), rw (lists-room (familyOf (a .c)) F (now (a .s)) (now (a .s)) (alone (b .pre .0 .2) (fine-listed x is))) (c .before .before .before .before .before .before .before .before .lists-alone .ensures .1))
 
 pub propagate-unary-categorical-nature-spec : {M : Type 1} → statement M
 propagate-unary-categorical-nature-spec =
