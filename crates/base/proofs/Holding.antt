@@ -15,11 +15,8 @@ use Rattle.base.proofs.Flags.{and-both}
 pub record Holding (p : ℕ → Bool) (n i : ℕ) (all : Bool) : Type 0 where
   pub rest : holdsFrom (n - i) i p ≡ all
 
-pub holding-start : (p : ℕ → Bool) (n i : ℕ) → Holding p n i (holdsFrom (n - i) i p)
-holding-start p n i = record { rest = refl }
-
-pub holding-from-zero : (p : ℕ → Bool) (n : ℕ) {all : Bool} → holdsFrom n 0 p ≡ all → Holding p n 0 all
-holding-from-zero p n e = record { rest = ap (λ (k : ℕ). holdsFrom k 0 p) (sub-zero n) ∙ e }
+pub holding-start : {p : ℕ → Bool} {n m : ℕ} → n ≡ m → Holding p n 0 (holdsFrom m 0 p)
+holding-start {p} {n} e = record { rest = ap (λ (k : ℕ). holdsFrom k 0 p) (sub-zero n ∙ e) }
 
 more : (p : ℕ → Bool) (n i : ℕ) → i < n → holdsFrom (n - i) i p ≡ (p i && holdsFrom (n - (i + 1)) (i + 1) p)
 unfolding holdsFrom
@@ -44,6 +41,9 @@ module _ {p : ℕ → Bool} {n i : ℕ} {all : Bool} (inv : Holding p n i all) w
   holding-done h =
       let e : n - i ≡ 0 = omega arith in
       sym (ap (λ (k : ℕ). holdsFrom k i p) e) ∙ inv .rest
+
+-- by these `search` proves all of such a loop that is not arithmetic: the start, a turn that fails, one that passes, the end
+pub ruleset held = (holding-start, holding-failed, holding-more, holding-done)
 
 -- a test that holds from i on holds at each of the n numbers
 pub holds-within : (p : ℕ → Bool) (n i k : ℕ) → holdsFrom n i p ≡ true → i ≤ k → k < i + n → p k ≡ true

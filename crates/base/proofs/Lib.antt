@@ -1,15 +1,6 @@
 -- What the proofs of several functions, and of the crates above, cite.
 pub mod Flags
-pub mod Holding
-pub mod Gathering
-pub mod Falling
-pub mod Words
-pub mod Finite
-pub mod Marked
-pub mod Passed
-pub mod Permitted
 pub mod Ends
-pub mod Natures
 pub mod Numbers
 pub mod Reader
 pub mod Through
@@ -20,4 +11,7 @@ pub mod Straight
 pub mod Forms
 pub mod Stands
 pub mod Groups
-pub mod Zeros
+pub mod Holding
+pub mod Passed
+pub mod Permitted
+pub mod Natures

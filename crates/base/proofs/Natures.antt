@@ -9,8 +9,8 @@ use borrow.Author.Tests.{eqb-true}
 use Rattle.base.specs.Form.{Form, natureAt, byteAt, groupCount, listCount, absentNature, wholeRangeNature, floatRangeNature, wholeListsNature, boolListsNature, floatListsNature, isRangeNature}
 use Rattle.base.specs.Sheet.{Nature, absent, wholeRange, floatRange, wholeLists, boolLists, floatLists}
 use Rattle.base.specs.Decode.{asWhole, asFloat, asBits, spanAt, entries, lists, natureIn}
-use Rattle.base.specs.Checks.{holdsFrom, boundsFail}
-use Rattle.base.specs.Entries.{wholeHolds, floatHolds, entryHolds}
+use Rattle.base.specs.Checks.{holdsFrom, boundsFail, wholeHolds, floatHolds}
+use Rattle.base.specs.Entries.{entryHolds}
 use Rattle.base.proofs.Flags.{or-no}
 use Rattle.base.proofs.Holding.{every-from}
 

@@ -1,9 +1,10 @@
 -- What a sheet that passed 3 is known to be.
 --     passed, sized    its sizes are within their limits, and its length is the one called for
 --     groups-fit, range-fits, lists-fit    its arrays stand in it
+--     passing          what readers ask of it, for the search
 --     passed-all, read-passed, read-ok     where the code is 0, no check of 3 to 5 failed, and what is read is what is decoded
 -- Assumes nothing.
-use mathlib.Core.Path.{_≡_, refl}
+use mathlib.Core.Path.{_≡_, refl, sym, ap}
 use mathlib.Core.Bool.{Bool, true, false, cond, not, _||_}
 use mathlib.Core.List.{List}
 use Prim.Native.Nat.{ℕ, _+_, _*_, _≤_}
@@ -11,7 +12,7 @@ use native.Mathlib.Omega.{arith}
 use lib.ListN.{length}
 use lib.Dec.{eqb, ltb}
 use borrow.Author.Tests.{ltb-false, eqb-true, not-false}
-use Rattle.numbers.specs.Result.{ok, refused, checked}
+use Rattle.numbers.specs.Result.{Result, ok, refused, checked}
 use Rattle.base.specs.Form.{Form, natureAt, byteAt, isRangeNature, groupCount, listCount, categoryCount, entriesAt, lengthCalledFor}
 use Rattle.base.specs.Decode.{decode, natureIn}
 use Rattle.base.specs.Checks.{sizesFail, fieldsFail, boundsFail, read}
@@ -86,6 +87,16 @@ module _ {F : Form} {s : List ℕ} {g n t : ℕ} (z : Sized F s g n t) where
         room = omega arith;
       }
 
+module _ (F : Form) (s : List ℕ) (e : sizesFail F s ≡ false) where
+  pub passed-long : F .arraysAt ≤ length s
+  passed-long = long-enough (passed F s e)
+
+  pub passed-groups : {r : Sizes} → SizesIn F s r → GroupsFit F s (r .groups)
+  passed-groups a = groups-fit (sized F s e a)
+
+-- by these `search` proves what is asked of a sheet that passed 3, but for the arrays of its nature
+pub ruleset passing = (passed-long, passed-groups)
+
 -- ---- checks 3 to 5 in a row
 
 -- no check of 3 to 5 fails
@@ -112,3 +123,8 @@ module _ (F : Form) (s : List ℕ) where
 
   pub read-ok : codeOf (read F s) ≡ 0 → read F s ≡ ok (decode F s)
   read-ok e = read-passed (passed-all e)
+
+-- a code that is not 0 is the refusal's
+pub refused-code : {X : Type 0} (r : Result X) {k : ℕ} → k ≡ codeOf r → (k ≡ 0 → ⊥) → r ≡ refused k
+refused-code (ok x) {k} e h = absurd (h e)
+refused-code (refused m) e h = ap refused (sym e)

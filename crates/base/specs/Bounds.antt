@@ -12,28 +12,27 @@ abbrev pub isPresent : {E : Type 0} → Option E → Bool
 isPresent none = false
 isPresent (some a) = true
 
+module _ {E : Type 0} (K : Kind E) (limit : E) where
+  -- an end that is present and above a limit, or below it
+  abbrev pub above : Option E → Bool
+  above none = false
+  above (some a) = K .lt limit a
+
+  abbrev pub under : Option E → Bool
+  under none = false
+  under (some a) = K .lt a limit
+
 module _ {E : Type 0} (K : Kind E) where
-  -- above 0
   abbrev pub positive : Option E → Bool
-  positive none = false
-  positive (some a) = K .lt (K .zero) a
+  positive x = above K (K .zero) x
 
   -- 0 or above
   abbrev pub nonNegative : Option E → Bool
-  nonNegative none = false
-  nonNegative (some a) = not (K .lt a (K .zero))
-
-  abbrev pub aboveOne : Option E → Bool
-  aboveOne none = false
-  aboveOne (some a) = K .lt (K .one) a
-
-  abbrev pub belowOne : Option E → Bool
-  belowOne none = false
-  belowOne (some a) = K .lt a (K .one)
+  nonNegative x = isPresent x && not (under K (K .zero) x)
 
   -- 01: "base lower and upper in (0,1), or lower > 1". (The upper end of an entry is not below its lower.)
   abbrev pub suitsAsBase : Span E → Bool
-  suitsAsBase r = (positive (r .lower) && belowOne (r .upper)) || aboveOne (r .lower)
+  suitsAsBase r = (above K (K .zero) (r .lower) && under K (K .one) (r .upper)) || above K (K .one) (r .lower)
 
 -- a range whose every entry passes; anything but a range does not
 unfoldable pub everyEntry : (Span ℤ → Bool) → (Span Float → Bool) → Nature → Bool

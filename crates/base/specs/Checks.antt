@@ -3,13 +3,14 @@ use mathlib.Core.Bool.{Bool, true, false, cond, not, _&&_, _||_}
 use mathlib.Core.List.{List, [], _∷_}
 use mathlib.Core.Option.{Option, none, some}
 use Prim.Native.Nat.{ℕ, zero, suc, _+_, _-_}
+use lib.IntN.{ℤ}
 use lib.ListN.{length, getD}
 use lib.Dec.{eqb, leb, ltb}
 use lib.Ieee.{Float}
 use lib.Ieee.Scale.{finite}
 use Rattle.bytes.specs.Le.{leAt}
 use Rattle.numbers.specs.Result.{Result, ok, Check, check, checked}
-use Rattle.numbers.specs.Kind.{Kind, whole, float}
+use Rattle.numbers.specs.Kind.{Kind, Span, whole, float}
 use Rattle.utilities.specs.Lists.{every}
 use Rattle.base.specs.Form.{Form, groupCount, listCount, categoryCount, place, byteAt, natureAt, typeAt, nullityAt, releasableAt, notEmptyAt, orderedAt, rowsMarkAt, columnsMarkAt, datasetMarkAt, dimensionalityMarkAt, sampleMarkAt, reservedAt, reservedCount, fieldsEnd, rowsAt, columnsAt, datasetAt, dimensionalityAt, sampleAt, absentNature, boolListsNature, lastNature, isRangeNature, lastType, boolKey, lastKey, keyAt, lowerAt, upperAt, lengthCalledFor}
 use Rattle.base.specs.Sheet.{Nature, absent, wholeRange, floatRange, wholeLists, boolLists, floatLists, Sheet}
@@ -84,10 +85,11 @@ module _ (F : Form) (s : List ℕ) where
   abbrev pub endPermitted : ℕ → Bool
   endPermitted at = markPermitted at (at + 1) s
 
+  abbrev pub endsPermitted : ℕ → Bool
+  endsPermitted i = endPermitted (lowerAt F (groupCount F s) i) && endPermitted (upperAt F (groupCount F s) (listCount F s) i)
+
   unfoldable pub rangePermitted : Bool
-  rangePermitted =
-      eqb (categoryCount F s) 0
-      && holdsFrom (listCount F s) 0 (λ i. endPermitted (lowerAt F (groupCount F s) i) && endPermitted (upperAt F (groupCount F s) (listCount F s) i))
+  rangePermitted = eqb (categoryCount F s) 0 && holdsFrom (listCount F s) 0 endsPermitted
 
   -- 4: "list numbers (8 bits, below n, never falling)"
   abbrev pub numberPermitted : ℕ → Bool
@@ -96,9 +98,11 @@ module _ (F : Form) (s : List ℕ) where
       && (eqb i 0 || leb (listNumber F s (groupCount F s) (i - 1)) (listNumber F s (groupCount F s) i))
 
   -- 4: "values (64 bits; bool 0 or 1)"
+  abbrev pub boolPermitted : ℕ → Bool
+  boolPermitted i = leb (categoryAt F s (groupCount F s) (categoryCount F s) i) 1
+
   abbrev pub valuePermitted : ℕ → Bool
-  valuePermitted i =
-      not (eqb (byteAt F natureAt s) boolListsNature) || leb (categoryAt F s (groupCount F s) (categoryCount F s) i) 1
+  valuePermitted i = not (eqb (byteAt F natureAt s) boolListsNature) || boolPermitted i
 
   unfoldable pub listsPermitted : Bool
   listsPermitted = holdsFrom (categoryCount F s) 0 (λ i. numberPermitted i && valuePermitted i)
@@ -127,10 +131,17 @@ unfoldable pub unbounded : Option Float → Bool
 unbounded none = false
 unbounded (some x) = not (finite x)
 
+-- an entry that passes 5, of a whole range and of a float range
+abbrev pub wholeHolds : Span ℤ → Bool
+wholeHolds r = not (crossed whole (r .lower) (r .upper))
+
+abbrev pub floatHolds : Span Float → Bool
+floatHolds r = not (unbounded (r .lower) || unbounded (r .upper) || crossed float (r .lower) (r .upper))
+
 unfoldable pub boundsFail : Nature → Bool
 boundsFail absent = false
-boundsFail (wholeRange rs) = not (every (λ r. not (crossed whole (r .lower) (r .upper))) rs)
-boundsFail (floatRange rs) = not (every (λ r. not (unbounded (r .lower) || unbounded (r .upper) || crossed float (r .lower) (r .upper))) rs)
+boundsFail (wholeRange rs) = not (every wholeHolds rs)
+boundsFail (floatRange rs) = not (every floatHolds rs)
 boundsFail (wholeLists ls) = false
 boundsFail (boolLists ls) = false
 boundsFail (floatLists ls) = false

@@ -76,18 +76,35 @@ valueCount (boolLists ls) = total ls
 valueCount (floatLists ls) = total ls
 
 -- 01: "n lowers and n uppers"
-unfoldable pub rangeBytes : {X : Type 0} → (X → ℕ) → List (Span X) → List ℕ
-rangeBytes bits rs = joined (λ r. endBytes bits (r .lower)) rs ++ joined (λ r. endBytes bits (r .upper)) rs
+module _ {X : Type 0} (bits : X → ℕ) where
+  abbrev pub lowersOf : List (Span X) → List ℕ
+  lowersOf rs = joined (λ r. endBytes bits (r .lower)) rs
+
+  abbrev pub uppersOf : List (Span X) → List ℕ
+  uppersOf rs = joined (λ r. endBytes bits (r .upper)) rs
+
+  unfoldable pub rangeBytes : List (Span X) → List ℕ
+  rangeBytes rs = lowersOf rs ++ uppersOf rs
+
+  -- 01: "t values (64 bits ..)", those of a list, and of all lists
+  abbrev pub listBytes : List X → List ℕ
+  listBytes l = joined (λ v. leBytes 8 (bits v)) l
+
+  abbrev pub valuesOf : List (List X) → List ℕ
+  valuesOf ls = joined listBytes ls
 
 module _ (F : Form) where
-  -- 01: "t list numbers", those of list j and of the lists behind it
+  -- 01: "t list numbers", those of list j, and with those of the lists behind it
+  abbrev pub numberBytes : {X : Type 0} → ℕ → List X → List ℕ
+  numberBytes j l = joined (λ v. leBytes (F .numberWidth) j) l
+
   unfoldable pub numbersFrom : {X : Type 0} → ℕ → List (List X) → List ℕ
   numbersFrom j [] = []
-  numbersFrom j (l ∷ ls) = joined (λ v. leBytes (F .numberWidth) j) l ++ numbersFrom (j + 1) ls
+  numbersFrom j (l ∷ ls) = numberBytes j l ++ numbersFrom (j + 1) ls
 
-  -- 01: "and t values (64 bits ..)"
+  -- 01: "t list numbers .. and t values"
   unfoldable pub listsBytes : {X : Type 0} → (X → ℕ) → List (List X) → List ℕ
-  listsBytes bits ls = numbersFrom 0 ls ++ joined (λ l. joined (λ v. leBytes 8 (bits v)) l) ls
+  listsBytes bits ls = numbersFrom 0 ls ++ valuesOf bits ls
 
   unfoldable pub natureBytes : Nature → List ℕ
   natureBytes absent = []
@@ -97,20 +114,28 @@ module _ (F : Form) where
   natureBytes (boolLists ls) = listsBytes asBits ls
   natureBytes (floatLists ls) = listsBytes asBits ls
 
-  -- 01: "Sizes first"
-  unfoldable pub sizeBytes : Sheet → List ℕ
-  sizeBytes s =
-      leBytes (F .sizeWidth) (length (s .groups))
-      ++ leBytes (F .sizeWidth) (entryCount (s .nature))
-      ++ leBytes (F .sizeWidth) (valueCount (s .nature))
+  -- 01: "Sizes first": groups g, list count n, category count t
+  abbrev pub sizeBytes : ℕ → ℕ → ℕ → List ℕ
+  sizeBytes g n t = leBytes (F .sizeWidth) g ++ leBytes (F .sizeWidth) n ++ leBytes (F .sizeWidth) t
+
+  -- the zero bytes between the last field and the arrays
+  abbrev pub gapBytes : List ℕ
+  gapBytes = replicate (F .arraysAt - place F fieldsEnd) 0
+
+-- 01: bytes 6 to 11, and 20 to 24
+abbrev pub flagBytes : ℕ → Fields → List ℕ
+flagBytes nature s = nature ∷ s .dataType ∷ flag (s .nullity) ∷ flag (s .releasable) ∷ flag (s .notEmpty) ∷ flag (s .ordered) ∷ []
+
+abbrev pub presenceBytes : Fields → List ℕ
+presenceBytes s = mark (s .rows) ∷ mark (s .columns) ∷ mark (s .dataset) ∷ mark (s .dimensionality) ∷ mark (s .sample) ∷ []
 
 -- 01: bytes 6 to 31
 unfoldable pub markBytes : ℕ → Fields → List ℕ
 markBytes nature s =
-    (nature ∷ s .dataType ∷ flag (s .nullity) ∷ flag (s .releasable) ∷ flag (s .notEmpty) ∷ flag (s .ordered) ∷ [])
+    flagBytes nature s
     ++ leBytes 4 (s .cStability)
     ++ leBytes 4 (s .aggregator)
-    ++ (mark (s .rows) ∷ mark (s .columns) ∷ mark (s .dataset) ∷ mark (s .dimensionality) ∷ mark (s .sample) ∷ [])
+    ++ presenceBytes s
     ++ replicate reservedCount 0
 
 -- 01: "Then 64 bits each: those five from 32, node at 72"
@@ -126,12 +151,15 @@ valueBytes s =
 unfoldable pub groupBytes : List Group → List ℕ
 groupBytes gs = joined (λ g. leBytes 4 (g .partition)) gs ++ joined (λ g. g .kind ∷ leBytes 8 (wholeBits (g .index))) gs
 
-unfoldable pub encode : Form → Sheet → List ℕ
-encode F s =
-    sizeBytes F s
-    ++ markBytes (natureNumber (s .nature)) (s .fields)
-    ++ valueBytes (s .fields)
-    ++ leBytes 8 (wholeBits (s .node))
-    ++ replicate (F .arraysAt - place F fieldsEnd) 0
-    ++ groupBytes (s .groups)
-    ++ natureBytes F (s .nature)
+module _ (F : Form) where
+  -- all that stands before the arrays: of g groups, and of a nature by its number and its sizes n and t
+  abbrev pub frontBytes : ℕ → ℕ → ℕ → ℕ → Fields → ℤ → List ℕ
+  frontBytes g nature n t fields node =
+      sizeBytes F g n t ++ markBytes nature fields ++ valueBytes fields ++ leBytes 8 (wholeBits node) ++ gapBytes F
+
+  unfoldable pub encode : Sheet → List ℕ
+  encode s =
+      let k = s .nature in
+      frontBytes (length (s .groups)) (natureNumber k) (entryCount k) (valueCount k) (s .fields) (s .node)
+      ++ groupBytes (s .groups)
+      ++ natureBytes F k

@@ -1,10 +1,10 @@
 pub mod Form
 pub mod Sheet
 pub mod Decode
-pub mod Checks
 pub mod Encode
 pub mod Bounds
 pub mod Components
 pub mod Code
 pub mod Sized
+pub mod Checks
 pub mod Entries

@@ -1,4 +1,4 @@
-// The sheet: its form, its readers and checks, its records, and the components by their numbers.
+// The sheet: its form, its readers, its records, and the components by their numbers.
 ghost use mathlib.Core.Path.{_≡_};
 ghost use Prim.Native.Nat.{_+_, _≤_, _<_};
 ghost use lib.ListN.{length, getD};
@@ -6,15 +6,12 @@ ghost use Rattle.bytes.specs.Le.{leAt};
 ghost use Rattle.bytes.specs.Wrote.{Wrote};
 ghost use Rattle.base.specs.Form.{formOf, place, byteAt, natureAt, nodeAt, fieldsEnd, lengthCalledFor};
 ghost use Rattle.base.specs.Decode.{asWhole, asFloat, asBits, flagAt, fieldAt, listNumber, fieldsIn};
-ghost use Rattle.base.specs.Checks.{read};
 ghost use Rattle.base.specs.Components.{numberOf, componentOf, familyOf, isUnary};
-ghost use Rattle.base.specs.Code.{boundAt, boundBytes, signedOf, bitsIn, headFields, codeOf};
+ghost use Rattle.base.specs.Code.{boundAt, boundBytes, signedOf, bitsIn, headFields};
 ghost use Rattle.base.specs.Sized.{SizesIn, ListsFit};
 
 pub mod form; // the stored forms: limits, places and numbers
 pub mod refusals; // their numbers
-mod checks; // 3 and 4, and 5 beside 4
-mod spans; // 4 and 5 of a range
 mod view; // one view of a sheet's bytes
 
 use form::Form;
@@ -180,7 +177,7 @@ pub fn byte_at(s: &[u8], at: usize) -> u8
     view::byte_in(view::view_of(s), at)
 }
 
-fn u16_at(s: &[u8], at: usize) -> usize
+pub fn u16_at(s: &[u8], at: usize) -> usize
     requires { ⌜ at + 2 ≤ length (now s) ⌝ }
     ensures { λ r. ⌜ r ≡ leAt 2 at (now (s .entry)) ⌝ }
 {
@@ -284,7 +281,7 @@ pub fn length_called_for(f: Form, s: &[u8]) -> usize
 
 // ---- a field, by its place in 01
 
-fn byte_in(f: Form, s: &[u8], k: usize) -> u8
+pub fn byte_in(f: Form, s: &[u8], k: usize) -> u8
     requires { ⌜ (formOf f .arraysAt ≤ length (now s)) × (k < fieldsEnd) ⌝ }
     ensures { λ r. ⌜ r ≡ byteAt (formOf f) k (now (s .entry)) ⌝ }
 {
@@ -298,7 +295,7 @@ fn u32_in(f: Form, s: &[u8], k: usize) -> u32
     u32_at(s, f.place(k))
 }
 
-fn u64_in(f: Form, s: &[u8], k: usize) -> u64
+pub fn u64_in(f: Form, s: &[u8], k: usize) -> u64
     requires { ⌜ (formOf f .arraysAt ≤ length (now s)) × (k + 8 ≤ fieldsEnd) ⌝ }
     ensures { λ r. ⌜ r ≡ leAt 8 (place (formOf f) k) (now (s .entry)) ⌝ }
 {
@@ -389,27 +386,4 @@ pub fn list_number(f: Form, s: &[u8], g: usize, n: usize, t: usize, i: usize) ->
         Form::Narrow => bytes::wide(byte_at(s, start + form::NARROW_NUMBER_WIDTH * i)),
         Form::Wide => u16_at(s, start + form::WIDE_NUMBER_WIDTH * i),
     }
-}
-
-// ---- checks 3 to 5
-
-// 0, or the number of the first check of 3 to 5 that the sheet breaks.
-pub fn check_sheet(f: Form, s: &[u8]) -> u32
-    ensures { λ r. ⌜ r ≡ codeOf (read (formOf f) (now (s .entry))) ⌝ }
-{
-    if checks::sizes_fail(f, s) {
-        return refusals::SIZES;
-    }
-    if checks::head_fails(f, s) {
-        return refusals::FIELDS;
-    }
-    // One pass finds both: 5 is answered where all of 4 has passed.
-    let nature = checks::nature_faults(f, s);
-    if nature.fields {
-        return refusals::FIELDS;
-    }
-    if nature.bounds {
-        return refusals::BOUNDS;
-    }
-    0
 }

@@ -20,8 +20,8 @@ use Rattle.utilities.specs.Columns.{each}
 use Rattle.utilities.specs.Noted.{Begins, Lacks}
 use Rattle.utilities.proofs.Firsts.{noted-new, noted-keeps, firstsFrom-append}
 use Rattle.utilities.proofs.Begins.{begins-room}
-use Rattle.categories.specs.Categories.{pairs, product}
-use Rattle.categories.specs.Answers.{Stored}
+use Rattle.category_lists.specs.Categories.{pairs, product}
+use Rattle.category_lists.specs.Answers.{Stored}
 
 module _ {X : Type 0} (same : X → X → Bool) (rule : X → X → Result X) where
   unfoldable pub rowFrom : List X → X → List X → Result (List X)

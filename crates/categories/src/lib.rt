@@ -1,200 +1,27 @@
-// Categories, mapped and combined: from the lists of one sheet or two, the lists of the result, written into two lent buffers.
+// Categories combined by Add, Subtract, Multiply and Divide: from the lists of two sheets, the lists of the result, written into two lent buffers.
 use base::Component;
-use base::form;
 use base::form::Form;
 use base::refusals;
 use numbers::Checked;
 use utilities::Noted;
 use writer::Derived;
-use writer::Parts;
 ghost use mathlib.Core.Path.{_≡_};
-ghost use mathlib.Core.Bool.{true, false};
-ghost use mathlib.Core.List.{List, []};
-ghost use Prim.Native.Nat.{ℕ, _+_, _*_, _^_, _≤_, _<_};
+ghost use mathlib.Core.Bool.{false};
+ghost use mathlib.Core.List.{List};
+ghost use Prim.Native.Nat.{_+_, _^_, _≤_, _<_};
 ghost use lib.IntN.{ℤ};
-ghost use lib.ListN.{length, take, getD};
-ghost use Rattle.numbers.specs.Result.{Result, ok};
-ghost use Rattle.numbers.specs.Kind.{fitting, eqZ};
-ghost use Rattle.utilities.specs.Lists.{firsts, noted};
-ghost use Rattle.utilities.specs.Noted.{Begins, Hinting, hintCount};
+ghost use lib.ListN.{length, take};
+ghost use Rattle.numbers.specs.Kind.{eqZ};
+ghost use Rattle.utilities.specs.Lists.{noted};
+ghost use Rattle.utilities.specs.Noted.{Hinting};
 ghost use Rattle.base.specs.Form.{formOf, listCount};
 ghost use Rattle.base.specs.Decode.{asWhole, lists};
 ghost use Rattle.base.specs.Components.{familyOf};
 ghost use Rattle.base.specs.declared.Family.the-variants as Fam;
 ghost use Rattle.writer.specs.Written.{inWriting, derivedIn, listsRoom, Within};
-ghost use Rattle.categories.specs.Categories.{absWhole, combined, mapped, limited, ruleOf};
-ghost use Rattle.categories.specs.Columnwise.{Listed, Reaches, Alike, eachFrom, pick, spreadOf, lesserOf, columnOf};
-ghost use Rattle.categories.specs.Answers.{Stores, Arrays, Stored, Grown, Columns, gathered};
-
-// ---- the rules
-
-// -2^63 has no magnitude in 64 signed bits.
-fn magnitude(a: i64) -> Checked
-    ensures { λ r. ⌜ fitting r ≡ absWhole a ⌝ }
-{
-    if 0 <= a {
-        return Checked::Fits(a);
-    }
-    numbers::checked_neg(a)
-}
-
-// The rule of Abs or Negative.
-fn mapping(c: Component, a: i64) -> Checked
-    requires { ⌜ familyOf c ≡ Fam.Unary ⌝ }
-    ensures { λ r. ⌜ fitting r ≡ ruleOf c a a ⌝ }
-{
-    match c {
-        Component::Abs => magnitude(a),
-        Component::Negative => numbers::checked_neg(a),
-        _ => Checked::Leaves,
-    }
-}
-
-// The rule of Add, Subtract, Multiply or Divide.
-fn category(c: Component, a: i64, b: i64) -> Checked
-    requires { ⌜ familyOf c ≡ Fam.Pair ⌝ }
-    ensures { λ r. ⌜ fitting r ≡ ruleOf c a b ⌝ }
-{
-    match c {
-        Component::Add => numbers::checked_add(a, b),
-        Component::Subtract => numbers::checked_sub(a, b),
-        Component::Multiply => numbers::checked_mul(a, b),
-        Component::Divide => numbers::checked_div(a, b),
-        _ => Checked::Leaves,
-    }
-}
-
-// ---- an operand's lists
-
-// List j of a sheet, without repeats, goes to the start of out. Returns how many values it has.
-fn list_into(f: Form, s: &[u8], j: usize, out: &mut [i64], hints: &mut [u8]) -> usize
-    requires { ⌜ Listed (formOf f) (now s) × (j < listCount (formOf f) (now s)) × (formOf f .categoryLimit ≤ length (now out)) × (length (now hints) ≡ hintCount) ⌝ }
-    ensures { λ r. ⌜ Begins (firsts eqZ (getD (lists (formOf f) (now (s .entry)) asWhole) j [])) r (now (out .entry)) (now (out .exit)) ⌝ }
-{
-    let sizes = base::sizes_at(f, s);
-    let g = sizes.groups;
-    let lists = sizes.lists;
-    let t = sizes.categories;
-    utilities::clear_hints(hints);
-    let mut n: usize = 0;
-    let mut i: usize = 0;
-    while i < t {
-        let number = base::list_number(f, s, g, lists, t, i);
-        let at = f.value_at(g, t, i);
-        i += 1;
-        if number != j {
-            continue;
-        }
-        let v = base::i64_at(s, at);
-        // There is room for every category of a sheet.
-        let Noted::At(m) = utilities::note_hinted(out, n, v, hints) else {
-            return n;
-        };
-        n = m;
-    }
-    n
-}
-
-// The list of column j: one list stands for every column.
-fn column_list(f: Form, s: &[u8], j: usize, out: &mut [i64], hints: &mut [u8]) -> usize
-    requires { ⌜ Listed (formOf f) (now s) × Reaches (formOf f) (now s) j × (formOf f .categoryLimit ≤ length (now out)) × (length (now hints) ≡ hintCount) ⌝ }
-    ensures { λ r. ⌜ Begins (firsts eqZ (pick (lists (formOf f) (now (s .entry)) asWhole) j)) r (now (out .entry)) (now (out .exit)) ⌝ }
-{
-    let sizes = base::sizes_at(f, s);
-    if sizes.lists == 1 {
-        return list_into(f, s, 0, out, hints);
-    }
-    list_into(f, s, j, out, hints)
-}
-
-// ---- the columns, gathered
-
-// List j, of k values, goes behind the t categories that were written. Returns how many there are then, or one more than the limit.
-fn append_list(
-    f: Form,
-    store: &[i64],
-    k: usize,
-    j: usize,
-    t: usize,
-    numbers: &mut [u8],
-    values: &mut [u8],
-) -> usize
-    requires { ⌜ (k ≤ formOf f .categoryLimit + 1) × (length (now store) ≡ formOf f .categoryLimit) × (j < formOf f .listLimit) × (t ≤ formOf f .categoryLimit + 1) ⌝ }
-    requires { ⌜ Arrays (formOf f) (now numbers) (now values) ⌝ }
-    ensures { λ r. ⌜ (r ≤ formOf f .categoryLimit + 1) × ((xs : List ℤ) → Stored k (now (store .entry)) xs → Grown (formOf f) xs j t (now (numbers .entry)) (now (values .entry)) r (now (numbers .exit)) (now (values .exit))) ⌝ }
-{
-    let limit = f.category_limit();
-    if limit < t + k {
-        return limit + 1;
-    }
-    let mut at = f.numbers_length(t);
-    let mut place = form::VALUE_WIDTH * t;
-    let mut i: usize = 0;
-    while i < k {
-        at = writer::put_number(f, numbers, at, j);
-        place = bytes::put_i64(values, place, store[i]);
-        i += 1;
-    }
-    t + k
-}
-
-// n lists of t categories.
-fn gather(f: Form, n: usize, t: usize) -> Derived
-    requires { ⌜ (n ≤ formOf f .listLimit) × (t ≤ formOf f .categoryLimit + 1) ⌝ }
-    ensures { λ r. ⌜ r ≡ gathered (formOf f) n t ⌝ }
-{
-    if f.category_limit() < t {
-        return Derived::Refused(refusals::OVER_THE_LIMIT);
-    }
-    Derived::Nature(Parts {
-        nature: form::WHOLE_LISTS,
-        entries: n,
-        values: t,
-        first: f.numbers_length(t),
-        second: form::VALUE_WIDTH * t,
-    })
-}
-
-// The column behind those that are as column j: where each operand has one list, all are.
-fn column_end(f: Form, left: &[u8], right: &[u8], j: usize, n: usize) -> usize
-    requires { ⌜ Listed (formOf f) (now left) × Listed (formOf f) (now right) × (j < n) ⌝ }
-    ensures { λ r. ⌜ (j < r) × (r ≤ n) × Alike (formOf f) (now (left .entry)) (now (right .entry)) j r ⌝ }
-{
-    let l = base::sizes_at(f, left);
-    let r = base::sizes_at(f, right);
-    if l.lists == 1 {
-        if r.lists == 1 {
-            return n;
-        }
-    }
-    j + 1
-}
-
-// The columns from j up to end, which have the same list of k values, go behind the t categories that were written.
-fn append_columns(
-    f: Form,
-    store: &[i64],
-    k: usize,
-    j: usize,
-    end: usize,
-    t: usize,
-    numbers: &mut [u8],
-    values: &mut [u8],
-) -> usize
-    requires { ⌜ (k ≤ formOf f .categoryLimit + 1) × (length (now store) ≡ formOf f .categoryLimit) × (j ≤ end) × (end ≤ formOf f .listLimit) × (t ≤ formOf f .categoryLimit + 1) ⌝ }
-    requires { ⌜ Arrays (formOf f) (now numbers) (now values) ⌝ }
-    ensures { λ r. ⌜ ((each : ℕ → Result (List ℤ)) (n : ℕ) (xs : List ℤ) → Stored k (now (store .entry)) xs → end ≤ n → ((i : ℕ) → j ≤ i → i < end → each i ≡ ok xs) → Columns (formOf f) each n j t (now (numbers .entry)) (now (values .entry)) → Columns (formOf f) each n end r (now (numbers .exit)) (now (values .exit))) ⌝ }
-{
-    let mut total = t;
-    let mut i = j;
-    while i < end {
-        total = append_list(f, store, k, i, total, numbers, values);
-        i += 1;
-    }
-    total
-}
-
-// ---- the product
+ghost use Rattle.category_lists.specs.Categories.{combined, limited, ruleOf};
+ghost use Rattle.category_lists.specs.Columnwise.{Listed, eachFrom, lesserOf, columnOf};
+ghost use Rattle.category_lists.specs.Answers.{Stores, Arrays, Stored};
 
 // A result goes behind the k that were noted, unless it is among them. Returns how many there are then, or one more than there is room for.
 fn note_result(store: &mut [i64], k: usize, v: i64, hints: &mut [u8]) -> usize
@@ -234,8 +61,8 @@ fn products_into(
     let mut t: usize = 0;
     let mut j: usize = 0;
     'product: while j < n {
-        let l = column_list(f, left, j, us, hints);
-        let r = column_list(f, right, j, bs, hints);
+        let l = category_lists::column_list(f, left, j, us, hints);
+        let r = category_lists::column_list(f, right, j, bs, hints);
         utilities::clear_hints(hints);
         let mut k: usize = 0;
         let mut i: usize = 0;
@@ -244,7 +71,7 @@ fn products_into(
             i += 1;
             let mut m: usize = 0;
             while m < r {
-                let Checked::Fits(v) = category(c, a, bs[m]) else {
+                let Checked::Fits(v) = category_lists::category(c, a, bs[m]) else {
                     code = refusals::LEAVES_64_BITS;
                     break 'product;
                 };
@@ -252,65 +79,14 @@ fn products_into(
                 k = note_result(store, k, v, hints);
             }
         }
-        let end = column_end(f, left, right, j, n);
-        t = append_columns(f, store, k, j, end, t, numbers, values);
+        let end = category_lists::column_end(f, left, right, j, n);
+        t = category_lists::append_columns(f, store, k, j, end, t, numbers, values);
         j = end;
     }
     if code != 0 {
         return Derived::Refused(code);
     }
-    gather(f, n, t)
-}
-
-// n columns in order, of each its values mapped; repeats of the results stay. The first value that fails ends it.
-fn maps_into(
-    f: Form,
-    c: Component,
-    n: usize,
-    left: &[u8],
-    us: &mut [i64],
-    store: &mut [i64],
-    hints: &mut [u8],
-    numbers: &mut [u8],
-    values: &mut [u8],
-) -> Derived
-    requires { ⌜ Listed (formOf f) (now left) × ((listCount (formOf f) (now left) ≡ 1 → ⊥) → n ≤ listCount (formOf f) (now left)) × (familyOf c ≡ Fam.Unary) ⌝ }
-    requires { ⌜ n ≤ formOf f .listLimit ⌝ }
-    requires { ⌜ Stores (formOf f) (now us) (now us) (now store) (now hints) × Arrays (formOf f) (now numbers) (now values) ⌝ }
-    ensures { λ r. ⌜ (derivedIn r (now (numbers .exit)) (now (values .exit)) ≡ inWriting (formOf f) (limited (formOf f .categoryLimit) (eachFrom (columnOf true eqZ (ruleOf c) (lists (formOf f) (now (left .entry)) asWhole) (lists (formOf f) (now (left .entry)) asWhole)) n 0))) × Within (formOf f) (listsRoom (formOf f)) (now (numbers .exit)) (now (values .exit)) r ⌝ }
-{
-    let mut code: u32 = 0;
-    let mut t: usize = 0;
-    let mut j: usize = 0;
-    'product: while j < n {
-        let k = column_list(f, left, j, us, hints);
-        let mut i: usize = 0;
-        while i < k {
-            let a = us[i];
-            let Checked::Fits(v) = mapping(c, a) else {
-                code = refusals::LEAVES_64_BITS;
-                break 'product;
-            };
-            store[i] = v;
-            i += 1;
-        }
-        let end = column_end(f, left, left, j, n);
-        t = append_columns(f, store, k, j, end, t, numbers, values);
-        j = end;
-    }
-    if code != 0 {
-        return Derived::Refused(code);
-    }
-    gather(f, n, t)
-}
-
-// ---- the operands
-
-// How many columns n lists have.
-fn spread(columns: usize, n: usize) -> usize
-    ensures { λ r. ⌜ r ≡ spreadOf columns n ⌝ }
-{
-    if n == 1 { columns } else { n }
+    category_lists::gather(f, n, t)
 }
 
 fn lesser(a: usize, b: usize) -> usize
@@ -319,28 +95,7 @@ fn lesser(a: usize, b: usize) -> usize
     if a < b { a } else { b }
 }
 
-// Abs and Negative: left's lists mapped.
-pub fn lists_alone(
-    f: Form,
-    c: Component,
-    columns: usize,
-    left: &[u8],
-    us: &mut [i64],
-    store: &mut [i64],
-    hints: &mut [u8],
-    numbers: &mut [u8],
-    values: &mut [u8],
-) -> Derived
-    requires { ⌜ Listed (formOf f) (now left) × (0 < columns) × (columns ≤ formOf f .columnLimit) × (familyOf c ≡ Fam.Unary) ⌝ }
-    requires { ⌜ Stores (formOf f) (now us) (now us) (now store) (now hints) × Arrays (formOf f) (now numbers) (now values) ⌝ }
-    ensures { λ r. ⌜ (derivedIn r (now (numbers .exit)) (now (values .exit)) ≡ inWriting (formOf f) (limited (formOf f .categoryLimit) (mapped eqZ (ruleOf c) columns (lists (formOf f) (now (left .entry)) asWhole)))) × Within (formOf f) (listsRoom (formOf f)) (now (numbers .exit)) (now (values .exit)) r ⌝ }
-{
-    let sizes = base::sizes_at(f, left);
-    let n = spread(columns, sizes.lists);
-    maps_into(f, c, n, left, us, store, hints, numbers, values)
-}
-
-// The others: the two operands' lists combined.
+// The two operands' lists combined, over as many columns as both have.
 pub fn lists_pair(
     f: Form,
     c: Component,
@@ -360,6 +115,9 @@ pub fn lists_pair(
 {
     let l = base::sizes_at(f, left);
     let r = base::sizes_at(f, right);
-    let n = lesser(spread(columns, l.lists), spread(columns, r.lists));
+    let n = lesser(
+        category_lists::spread(columns, l.lists),
+        category_lists::spread(columns, r.lists),
+    );
     products_into(f, c, n, left, right, us, bs, store, hints, numbers, values)
 }

@@ -1,5 +1,5 @@
 -- Bytes that pass 4 decode to a sheet whose values 4 permits. Assumes nothing.
-use mathlib.Core.Path.{_≡_, refl, sym, ap, _∙_}
+use mathlib.Core.Path.{_≡_, refl}
 use mathlib.Core.Bool.{Bool, true, false, cond, not, _&&_, _||_}
 use mathlib.Core.List.{List}
 use mathlib.Core.Option.{Option, none, some}
@@ -13,7 +13,6 @@ use Rattle.bytes.proofs.Reread.{AllBytes}
 use Rattle.base.specs.Form.{Form, groupCount, listCount, categoryCount, byteAt, natureAt, typeAt, lastType, wholeRangeNature, floatRangeNature, wholeListsNature, boolListsNature, floatListsNature, boolKey, lastKey, keyAt}
 use Rattle.base.specs.Sheet.{wholeRange, floatRange, wholeLists, boolLists, floatLists, absent}
 use Rattle.base.specs.Decode.{asWhole, asFloat, asBits, prepended, groupAt, listNumber, categoryAt, listAt, entries, lists, natureIn, fieldsIn, groupsIn, decode}
-use Rattle.base.specs.Encode.{wholeBits}
 use Rattle.base.specs.Checks.{fieldsFail, keyPermitted, groupsPermitted, numberPermitted, valuePermitted, listsPermitted, naturePermitted}
 use Rattle.base.proofs.Flags.{and-both}
 use Rattle.base.proofs.Groups.{whole-bits-copied}

@@ -27,8 +27,8 @@ use Rattle.base.specs.Code.{codeOf}
 use Rattle.base.proofs.Groups.{groups-length}
 use Rattle.base.proofs.Passed.{Passed, passed, passed-all}
 use Rattle.base.proofs.Permitted.{permitted, columns-within}
-use Rattle.transforms.specs.Code.{Read}
-use Rattle.round_trip.specs.WellFormed.{Each, Present, Whole, Double, Bits, FieldsFit, GroupFits, SpanFits, ListsFit, NatureFits}
+use Rattle.lending.specs.Code.{Read}
+use Rattle.round_trip.specs.WellFormed.{Each, Present, Whole, Double, Bits, FieldsFit, GroupFits, SpanFits, CategoriesFit, NatureFits}
 use Rattle.derived.specs.Held.{Held}
 use Rattle.derived.proofs.Gives.{Gives, gives-more, gives-checked}
 use Rattle.derived.proofs.Each.{each-from}
@@ -76,7 +76,7 @@ module _ {F : Form} (laid : Laid F) (s : List ℕ) (small : AllBytes s) where
     unfolding entries
     entries-length = listFrom-length (spanAt F s read (groupCount F s) (listCount F s)) (listCount F s) 0
 
-    lists-fit : listCount F s ≤ F .listLimit → ListsFit F P (lists F s read)
+    lists-fit : listCount F s ≤ F .listLimit → CategoriesFit F P (lists F s read)
     unfolding lists
     lists-fit h =
         let n = lists-length in

@@ -25,11 +25,11 @@ use Rattle.base.specs.declared.Family.{Family}
 use Rattle.base.specs.declared.Family.the-variants as Fam
 use Rattle.base.proofs.Flags.{or-no}
 use Rattle.shape.specs.Shape.{columnsOf, columnsAbsent, widest, groupsOf, greaterZ, greaterOption, greaterPresent, rowsAgree, rowsOf}
-use Rattle.shape.specs.Orders.{unaryChecks, pairChecks, copyChecks, lastChecks}
+use Rattle.orders.specs.Orders.{unaryChecks, pairChecks, copyChecks, lastChecks}
 use Rattle.shape.specs.Fields.{addsNullity, pairFields, copyFields, copySheet, numbered}
-use Rattle.shape.proofs.Orders.{copy-numbered}
-use Rattle.transforms.specs.Natures.{binaryNature, unaryNature}
-use Rattle.transforms.specs.Derive.{deriveUnary, derivePair, deriveCopy, deriveBy, derive}
+use Rattle.orders.proofs.Orders.{copy-numbered}
+use Rattle.calls.specs.Natures.{binaryNature, unaryNature}
+use Rattle.calls.specs.Derive.{deriveUnary, derivePair, deriveCopy, deriveBy, derive}
 use Rattle.round_trip.specs.WellFormed.{Each, Present, Whole, Bits, FieldsFit, GroupFits, WellFormed}
 use Rattle.round_trip.proofs.Table.{sheet-length}
 use Rattle.round_trip.proofs.Natures.{arrays-length}

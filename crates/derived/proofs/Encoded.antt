@@ -17,12 +17,12 @@ use borrow.Author.Tests.{eq-eqb, eqb-true, lt-ltb, le-ltb, le-leb, leb-true}
 use Rattle.bytes.specs.Le.{leAt, leBytes}
 use Rattle.bytes.proofs.Widths.{length-leBytes}
 use Rattle.numbers.specs.Kind.{Span}
-use Rattle.base.specs.Form.{Form, Laid, groupCount, listCount, categoryCount, place, byteAt, natureAt, typeAt, nullityAt, releasableAt, notEmptyAt, orderedAt, rowsMarkAt, columnsMarkAt, datasetMarkAt, dimensionalityMarkAt, sampleMarkAt, reservedAt, reservedCount, fieldsEnd, rowsAt, columnsAt, datasetAt, dimensionalityAt, sampleAt, lastNature, lastType, boolListsNature, boolKey, lastKey, keyAt, entriesAt, lowerAt, upperAt, numberAt, valueAt, lengthCalledFor}
+use Rattle.base.specs.Form.{Form, Laid, groupCount, listCount, categoryCount, place, byteAt, natureAt, typeAt, nullityAt, releasableAt, notEmptyAt, orderedAt, rowsMarkAt, columnsMarkAt, datasetMarkAt, dimensionalityMarkAt, sampleMarkAt, reservedAt, reservedCount, fieldsEnd, rowsAt, columnsAt, datasetAt, dimensionalityAt, sampleAt, lastNature, lastType, boolKey, lastKey, keyAt, entriesAt, lowerAt, upperAt, numberAt, valueAt, lengthCalledFor}
 use Rattle.base.specs.Sheet.{Group, Nature, absent, wholeRange, floatRange, wholeLists, boolLists, floatLists, Fields, Sheet}
 use Rattle.base.specs.Decode.{asBits, listNumber}
-use Rattle.base.specs.Encode.{flag, mark, bitsOf, wholeBits, floatBits, joined, endBytes, natureNumber, entryCount, valueCount, total, rangeBytes, numbersFrom, listsBytes, natureBytes, encode}
+use Rattle.base.specs.Encode.{flag, mark, bitsOf, wholeBits, floatBits, joined, endBytes, natureNumber, entryCount, valueCount, total, rangeBytes, listBytes, numberBytes, numbersFrom, listsBytes, natureBytes, encode}
 use Rattle.base.specs.Checks.{holdsFrom, markPermitted, sizesFail, bytesPermitted, valuesPermitted, keyPermitted, groupsPermitted, rangePermitted, valuePermitted, listsPermitted, naturePermitted, fieldsFail}
-use Rattle.transforms.specs.Code.{Read}
+use Rattle.lending.specs.Code.{Read}
 use Rattle.round_trip.specs.WellFormed.{Each, Present, Whole, Bits, GroupFits, WellFormed}
 use Rattle.round_trip.proofs.Standing.{Standing, standing-left, standing-right, standing-at, byte-back, number-back}
 use Rattle.round_trip.proofs.Values.{whole}
@@ -30,10 +30,10 @@ use Rattle.round_trip.proofs.Arrays.{next-place}
 use Rattle.round_trip.proofs.Table.{keyBytes, key-sized, part-at, sheet-length}
 use Rattle.round_trip.proofs.Fields.{group-count-back, list-count-back, category-count-back, nature-byte-back}
 use Rattle.round_trip.proofs.Spans.{lowerBytes, upperBytes, end-sized, lowers-length}
-use Rattle.round_trip.proofs.Lists.{numbersOf, listBytes, numbersOf-length, listBytes-length, numbers-length}
+use Rattle.round_trip.proofs.Lists.{numberBytes-length, listBytes-length, numbers-length}
 use Rattle.round_trip.proofs.Natures.{sheetOf}
 use Rattle.round_trip.proofs.Back.{called-for}
-use Rattle.derived.specs.Held.{KeyAllowed, ValuesAllowed, Allowed, Sound}
+use Rattle.derived.specs.Held.{KeyAllowed, ValuesAllowed, Sound}
 use Rattle.derived.proofs.Derived.{sound-formed}
 
 or-true : (b : Bool) → (b || true) ≡ true
@@ -168,18 +168,18 @@ module _ {X : Type 0} (bits : X → ℕ) (Q : X → Type 0) (F : Form) (t : List
   module _ (m : ℕ) (written : m < 256 ^ F .numberWidth) (below : m < n) where
     -- the categories of list m, from i on, and the k behind them
     own-holds :
-        (l : List X) (i k : ℕ) → Each Q l → Follows m i → Standing t (numberAt F g i) (numbersOf F m l) → Standing t (valueAt F g c i) (listBytes bits l)
+        (l : List X) (i k : ℕ) → Each Q l → Follows m i → Standing t (numberAt F g i) (numberBytes F m l) → Standing t (valueAt F g c i) (listBytes bits l)
         → (Follows m (i + length l) → holdsFrom k (i + length l) categoryHolds ≡ true) → holdsFrom (length l + k) i categoryHolds ≡ true
     unfolding holdsFrom joined
     own-holds [] i k q f a v rest = rw (zero-add) (rw add-zero at (rest (rw add-zero f)))
     own-holds (x ∷ l) i k q f a v rest =
         let w = F .numberWidth in
-        let here : numberOf i ≡ m = number-back w (standing-left (leBytes w m) (numbersOf F m l) a) written in
+        let here : numberOf i ≡ m = number-back w (standing-left (leBytes w m) (numberBytes F m l) a) written in
         let good : value i ≡ true = ok i x (q .0) (standing-left (leBytes 8 (bits x)) (listBytes bits l) v) in
         let next : i + suc (length l) ≡ i + 1 + length l = omega arith in
         rw (suc-add, here, lt-ltb m n below, f, good)
         (own-holds l (i + 1) k (q .1) (follows-own m i here)
-        (standing-right (leBytes w m) (numbersOf F m l) a (next-place (entriesAt F g) w i 1 (rw (length-leBytes w m) (omega arith))))
+        (standing-right (leBytes w m) (numberBytes F m l) a (next-place (entriesAt F g) w i 1 (rw (length-leBytes w m) (omega arith))))
         (standing-right (leBytes 8 (bits x)) (listBytes bits l) v (next-place (entriesAt F g + w * c) 8 i 1 (rw (length-leBytes 8 (bits x)) (omega arith))))
         (rw next at rest))
 
@@ -191,10 +191,10 @@ module _ {X : Type 0} (bits : X → ℕ) (Q : X → Type 0) (F : Form) (t : List
   lists-hold [] m i few room q f a v = refl
   lists-hold (l ∷ ls) m i few room q f a v =
       own-holds m (omega arith) (omega arith) l i (total ls) (q .0) f
-      (standing-left (numbersOf F m l) (numbersFrom F (m + 1) ls) a) (standing-left (listBytes bits l) (joined (listBytes bits) ls) v)
+      (standing-left (numberBytes F m l) (numbersFrom F (m + 1) ls) a) (standing-left (listBytes bits l) (joined (listBytes bits) ls) v)
       (λ after.
       lists-hold ls (m + 1) (i + length l) (omega arith) (omega arith) (q .1) (follows-later m (i + length l) after)
-      (standing-right (numbersOf F m l) (numbersFrom F (m + 1) ls) a (next-place (entriesAt F g) (F .numberWidth) i (length l) (numbersOf-length F m l)))
+      (standing-right (numberBytes F m l) (numbersFrom F (m + 1) ls) a (next-place (entriesAt F g) (F .numberWidth) i (length l) (numberBytes-length F m l)))
       (standing-right (listBytes bits l) (joined (listBytes bits) ls) v (next-place (entriesAt F g + F .numberWidth * c) 8 i (length l) (listBytes-length bits l))))
 
   categories-hold :

@@ -12,13 +12,13 @@ use lib.Signed.{mag, quotZ}
 use borrow.Author.Tests.{ltb-true}
 use Rattle.numbers.specs.Result.{Result, ok, refused}
 use Rattle.numbers.specs.Checked.{checkedOf, quotientOf}
-use Rattle.numbers.specs.Kind.{Kind, Span, whole, float, fitting, lesser, greater}
+use Rattle.numbers.specs.Kind.{Kind, Span, whole, float, fitting, lesser, greater, spanOf}
 use Rattle.numbers.specs.declared.Checked.the-variants.{Fits, Leaves}
 use Rattle.base.specs.Form.{intType}
 use Rattle.base.specs.declared.Component.{Component}
 use Rattle.base.specs.declared.Component.the-variants as C
-use Rattle.ends.specs.Ends.{spanOf, unknown, both, present, fromTwo, fromOne, fromBoth, addEnds, subEnds, negEnds, absLower, absUpper, absEnds, corners, mulCorners, mulEnds, divCorners, divUpper, divLower, divPresent, divBy, divEnds, modEnds, endRule}
-use Rattle.ranges.specs.Ranges.{wholeRule}
+use Rattle.ends.specs.Ends.{unknown, both, present, fromTwo, fromOne, fromBoth, addEnds, subEnds, negEnds, absLower, absUpper, absEnds, corners, mulCorners, mulEnds, divCorners, divUpper, divLower, divPresent, divBy, divEnds, modEnds, endRule}
+use Rattle.ends.specs.Ranges.{wholeRule}
 use Rattle.round_trip.specs.WellFormed.{Present, Whole, Double, SpanFits}
 use Rattle.derived.proofs.Gives.{Gives, gives-then, gives-either}
 

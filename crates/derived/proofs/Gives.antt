@@ -9,7 +9,7 @@ use borrow.Author.Tests.{eqb-false, ltb-true, lt-ltb}
 use Rattle.numbers.specs.Result.{Result, ok, refused, andThen, Check, checked}
 use Rattle.base.proofs.Flags.{and-both}
 use Rattle.utilities.specs.Columns.{each, eachPair}
-use Rattle.shape.proofs.Refusals.{Numbered, head-numbered, tail-numbered}
+use Rattle.orders.proofs.Refusals.{Numbered, head-numbered, tail-numbered}
 use Rattle.round_trip.specs.WellFormed.{Each}
 
 abbrev pub Gives : {X : Type 0} → (X → Type 0) → Result X → Type 0

@@ -23,9 +23,9 @@ use Rattle.base.specs.Encode.{entryCount, valueCount, total}
 use Rattle.base.specs.declared.Component.{Component}
 use Rattle.base.specs.declared.Component.the-variants as C
 use Rattle.ends.specs.Ends.{endRule}
-use Rattle.ranges.specs.Ranges.{wholeRule, rangePair, rangeAlone}
-use Rattle.categories.specs.Categories.{remainder, modWhole, powerWhole, categoryRule, pairs, product, combined, mapped, counted, limited}
-use Rattle.transforms.specs.Natures.{ruled, wholeListsOf, listsPair, listsAlone, wholeRangeWith, floatRangeWith, listsWith, binaryNature, unaryNature}
+use Rattle.ends.specs.Ranges.{wholeRule, rangePair, rangeAlone}
+use Rattle.category_lists.specs.Categories.{remainder, modWhole, powerWhole, categoryRule, ruled, pairs, product, combined, mapped, counted, limited}
+use Rattle.calls.specs.Natures.{wholeListsOf, listsPair, listsAlone, wholeRangeWith, floatRangeWith, listsWith, binaryNature, unaryNature}
 use Rattle.round_trip.specs.WellFormed.{Each, Whole, Double, SpanFits, NatureFits}
 use Rattle.derived.specs.Held.{ValuesAllowed}
 use Rattle.derived.proofs.Answers.{checked-rest}

@@ -20,9 +20,9 @@ use Rattle.base.specs.declared.Family.{Family}
 use Rattle.base.specs.declared.Family.the-variants as Fam
 use Rattle.base.proofs.Passed.{Passed}
 use Rattle.shape.specs.Fields.{numbered}
-use Rattle.transforms.specs.Derive.{deriveBy, derive}
-use Rattle.transforms.specs.Single.{stepSheet, step}
-use Rattle.transforms.specs.Code.{Read}
+use Rattle.calls.specs.Derive.{deriveBy, derive}
+use Rattle.calls.specs.Single.{stepSheet, step}
+use Rattle.lending.specs.Code.{Read}
 use Rattle.derived.specs.Held.{Held, Sound}
 use Rattle.derived.proofs.Gives.{Gives, gives-more, gives-then}
 use Rattle.derived.proofs.Decoded.{decoded-held, read-gives}

@@ -3,11 +3,10 @@ use mathlib.Core.Option.{Option, none, some}
 use lib.IntN.{ℤ}
 use lib.Ieee as Ieee
 use Rattle.numbers.specs.Result.{Result, ok, refused}
-use Rattle.numbers.specs.Kind.{Span}
+use Rattle.numbers.specs.Kind.{Span, spanOf}
 use Rattle.base.specs.Code.{wholeEnd, floatEnd}
 use Rattle.base.specs.declared.Bound.{Bound}
 use Rattle.base.specs.declared.Bound.the-variants.{Absent}
-use Rattle.ends.specs.Ends.{spanOf}
 use Rattle.ends.specs.declared.Range.{Range}
 use Rattle.ends.specs.declared.End.{End}
 use Rattle.ends.specs.declared.End.the-variants as E

@@ -2,14 +2,11 @@
 use mathlib.Core.Bool.{cond, not, _&&_, _||_}
 use mathlib.Core.Option.{Option, none, some}
 use Rattle.numbers.specs.Result.{Result, ok, refused, andThen}
-use Rattle.numbers.specs.Kind.{Kind, Span, lesser, greater, least, greatest}
+use Rattle.numbers.specs.Kind.{Kind, Span, spanOf, lesser, greater, least, greatest}
 use Rattle.base.specs.declared.Component.{Component}
 use Rattle.base.specs.declared.Component.the-variants as C
 
 module _ {E : Type 0} where
-  abbrev pub spanOf : Option E → Option E → Span E
-  spanOf l u = record { lower = l; upper = u }
-
   -- both ends absent
   abbrev pub unknown : Result (Span E)
   unknown = ok (spanOf none none)

@@ -16,8 +16,7 @@ const LENGTH_UNIT: u64 = 4294967296;
 
 // Makes a call, writes its operands and its answer, and answers the length of the derived sheet.
 fn derive(component: u32, left: &[u8], right: &[u8], out: &mut [u8]) -> usize {
-    words::component(component);
-    io::write_all(STDOUT_FILENO, b" ");
+    words::component(component, b" ");
     show::sheet(left);
     if 0 < right.len() {
         io::write_all(STDOUT_FILENO, b", ");

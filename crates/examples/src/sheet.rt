@@ -1,7 +1,9 @@
 // The examples' operands, in buffers of zeros of the longest sheet's length: type Int, releasable, one row, node 7.
+ghost use mathlib.Core.Path.{_≡_};
 ghost use Prim.Native.Nat.{_≤_};
 ghost use lib.ListN.{length};
-ghost use Rattle.base.specs.Form.{narrow, longest};
+ghost use Rattle.base.specs.Form.{narrow, longest, calledFor, wholeRangeNature, wholeListsNature};
+ghost use Rattle.base.specs.declared.Bound.the-variants as Bound;
 use base::Bound;
 use base::form;
 
@@ -17,7 +19,9 @@ const DATASET: u8 = 8;
 // The lower and the upper end of a range.
 pub struct Ends(pub Bound, pub Bound);
 
-pub fn whole(a: i64, c: i64) -> Ends {
+pub(crate) fn whole(a: i64, c: i64) -> Ends
+    ensures { λ r. ⌜ (r .0 ≡ Bound.Whole a) × (r .1 ≡ Bound.Whole c) ⌝ }
+{
     Ends(Bound::Whole(a), Bound::Whole(c))
 }
 
@@ -35,7 +39,7 @@ fn head(s: &mut [u8], nature: u8, lists: u8, columns: u8)
     node(s, NODE);
 }
 
-pub fn node(s: &mut [u8], n: u8)
+pub(crate) fn node(s: &mut [u8], n: u8)
     requires { ⌜ longest narrow ≤ length (now s) ⌝ }
 {
     bytes::put_u8(s, form::NODE_AT, n);
@@ -49,7 +53,7 @@ fn rows(s: &mut [u8], n: u8)
 }
 
 // Not releasable, of one dataset.
-pub fn private(s: &mut [u8], n: u8)
+pub(crate) fn private(s: &mut [u8], n: u8)
     requires { ⌜ longest narrow ≤ length (now s) ⌝ }
 {
     rows(s, n);
@@ -59,8 +63,9 @@ pub fn private(s: &mut [u8], n: u8)
 }
 
 // A whole range of one entry, which stands for every column; answers the sheet's length.
-pub fn range(s: &mut [u8], e: Ends, columns: u8) -> usize
+pub(crate) fn range(s: &mut [u8], e: Ends, columns: u8) -> usize
     requires { ⌜ longest narrow ≤ length (now s) ⌝ }
+    ensures { λ r. ⌜ r ≡ calledFor narrow wholeRangeNature 0 1 0 ⌝ }
 {
     let lower = e.0;
     let upper = e.1;
@@ -69,9 +74,10 @@ pub fn range(s: &mut [u8], e: Ends, columns: u8) -> usize
     base::put_bound(s, next, upper)
 }
 
-// Two whole categories, in one list or in two.
-pub fn categories(s: &mut [u8], a: i64, b: i64, lists: u8, columns: u8) -> usize
+// Two whole categories, in one list or in two; answers the sheet's length.
+pub(crate) fn categories(s: &mut [u8], a: i64, b: i64, lists: u8, columns: u8) -> usize
     requires { ⌜ longest narrow ≤ length (now s) ⌝ }
+    ensures { λ r. ⌜ r ≡ calledFor narrow wholeListsNature 0 lists 2 ⌝ }
 {
     head(s, form::WHOLE_LISTS, lists, columns);
     bytes::put_u8(s, CATEGORIES_AT, 2);

@@ -7,7 +7,7 @@ use base::form;
 use libc::STDOUT_FILENO;
 
 // The first n bytes of s.
-pub fn front(s: &[u8], n: usize) -> &[u8]
+pub(crate) fn front(s: &[u8], n: usize) -> &[u8]
     ensures { λ r. ⌜ now r ≡ take n (now (s .entry)) ⌝ }
 {
     if n <= s.len() { &s[..n] } else { s }
@@ -34,6 +34,16 @@ fn missing() {
     io::write_all(STDOUT_FILENO, b"missing");
 }
 
+// The signed number whose two's complement is `v`, with its sign.
+fn signed(v: u64) {
+    if v < 0x8000_0000_0000_0000 {
+        io::write_all(STDOUT_FILENO, b"+");
+    } else {
+        io::write_all(STDOUT_FILENO, b"-");
+    }
+    io::print_decimal(STDOUT_FILENO, words::magnitude(v));
+}
+
 // The 64 bits at a place, as a signed number.
 fn number_at(s: &[u8], at: usize) {
     if s.len() < 8 {
@@ -44,7 +54,7 @@ fn number_at(s: &[u8], at: usize) {
         missing();
         return;
     }
-    words::signed(base::u64_at(s, at));
+    signed(base::u64_at(s, at));
 }
 
 // The number at a place, if its mark says that it is present.
@@ -127,7 +137,7 @@ fn categories(s: &[u8]) {
 }
 
 // The nature, and the columns where there are several.
-pub fn sheet(s: &[u8]) {
+pub(crate) fn sheet(s: &[u8]) {
     let nature = byte_at(s, form::NATURE_AT);
     if nature == form::WHOLE_RANGE {
         range(s);
@@ -144,10 +154,10 @@ pub fn sheet(s: &[u8]) {
     }
 }
 
-pub fn node(s: &[u8]) {
+pub(crate) fn node(s: &[u8]) {
     number_at(s, form::NODE_AT);
 }
 
-pub fn rows(s: &[u8]) {
+pub(crate) fn rows(s: &[u8]) {
     marked(s, form::ROWS_MARK_AT, form::ROWS_AT);
 }

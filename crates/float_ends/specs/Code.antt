@@ -4,6 +4,6 @@ use lib.Ieee.{Float}
 use Rattle.float_ends.specs.declared.Pair.{Pair}
 use Rattle.float_ends.specs.declared.Pair.the-variants.{Both, Missing}
 
-abbrev pub pairIn : Pair → Option (Float × Float)
-pairIn (Both a b) = some (a, b)
-pairIn Missing = none
+abbrev pub floatPair : Pair → Option (Float × Float)
+floatPair (Both a b) = some (a, b)
+floatPair Missing = none

@@ -12,7 +12,7 @@ ghost use Rattle.base.specs.Code.{floatEnd, ofFloat};
 ghost use Rattle.ends.specs.Ends.{fromTwo, fromOne, absLower, absUpper, absEnds, corners, mulCorners, mulEnds, divCorners, divUpper, divLower, divPresent, divBy, divEnds, endRule};
 ghost use Rattle.ends.specs.declared.End.the-variants as End;
 ghost use Rattle.ends.specs.Code.{floatSpan, endOf, endsOf, twoOf};
-ghost use Rattle.float_ends.specs.Code.{pairIn};
+ghost use Rattle.float_ends.specs.Code.{floatPair};
 
 // Two numbers of which both are present.
 enum Pair {
@@ -22,7 +22,7 @@ enum Pair {
 
 // Both ends of an entry. A bound of the other kind counts as absent.
 fn pair_of(x: Range) -> Pair
-    ensures { λ r. ⌜ pairIn r ≡ twoOf (floatEnd (x .lower)) (floatEnd (x .upper)) ⌝ }
+    ensures { λ r. ⌜ floatPair r ≡ twoOf (floatEnd (x .lower)) (floatEnd (x .upper)) ⌝ }
 {
     let lower = x.lower;
     let upper = x.upper;

@@ -1,16 +1,14 @@
 -- Replies, and what the two calls come to.
---     reply-is                       a code of 32 bits and a value come back
 --     single-unlisted, single-is     the single call, by its component
 --     begun-ended, reaches-ended     a walk that has no next step is at its end
 --     lent-ended                     and so is one with the category stores lent
 --     contained-reply                demand 3, of a reply of 0
 -- Assumes nothing.
-use mathlib.Core.Path.{_≡_, sym, ap, ap₂, subst, _∙_}
+use mathlib.Core.Path.{_≡_, sym, ap, subst, _∙_}
 use mathlib.Core.Bool.{Bool, true}
 use mathlib.Core.List.{List, [], _∷_}
 use mathlib.Core.Logic.{⊎-elim}
-use Prim.Native.Nat.{ℕ, _+_, _/_, _%_, _^_, _<_}
-use native.Mathlib.Nat.{zero-add, mod-eq-of-lt, div-eq-of-lt, add-mul-mod-self-left, add-mul-div-left}
+use Prim.Native.Nat.{ℕ, _%_, _^_}
 use native.Mathlib.Omega.{arith}
 use lib.Dec.{T}
 use types.Run.{OneOf}
@@ -20,22 +18,16 @@ use Rattle.base.specs.Form.{narrow}
 use Rattle.base.specs.Components.{componentOf}
 use Rattle.base.specs.declared.Component.{Component}
 use Rattle.base.specs.declared.Numbered.the-variants as N
-use Rattle.transforms.specs.Single.{Outcome, outcome, packed, step, delivery, singleOf, single}
-use Rattle.plan.specs.Walk.{plan}
-use Rattle.plan.specs.Code.{Begun, Reaches}
-use Rattle.plan.specs.Demand.{Contained}
-use Rattle.plan.proofs.Walked
-use Rattle.plan.specs.declared.Walked.{Walked}
-use Rattle.plan.specs.declared.Walked.the-variants as W
-use Rattle.plan.proofs.Contained.{contained}
-use Rattle.gate.specs.Reply.{replied, Ended}
-
-pub reply-is : (k v : ℕ) (bytes : List ℕ) {r : ℕ} → k < 2 ^ 32 → r ≡ packed k v → replied r bytes ≡ outcome k v bytes
-reply-is k v bytes h e =
-    let some : 0 < 2 ^ 32 = omega arith in
-    let low : packed k v % 2 ^ 32 ≡ k = add-mul-mod-self-left k (2 ^ 32) v ∙ mod-eq-of-lt h in
-    let high : packed k v / 2 ^ 32 ≡ v = add-mul-div-left k v some ∙ ap (λ (n : ℕ). n + v) (div-eq-of-lt h) ∙ zero-add v in
-    rw e (ap₂ (λ (a b : ℕ). outcome a b bytes) low high)
+use Rattle.calls.specs.Single.{Outcome, outcome, step, delivery, singleOf, single}
+use Rattle.calls.specs.Walk.{plan}
+use Rattle.plan_leaves.specs.Code.{Begun, Ended}
+use Rattle.plan.specs.Code.{Reaches}
+use Rattle.containment.specs.Demand.{Contained}
+use Rattle.plan_leaves.proofs.Walked
+use Rattle.plan_leaves.specs.declared.Walked.{Walked}
+use Rattle.plan_leaves.specs.declared.Walked.the-variants as W
+use Rattle.containment.proofs.Contained.{contained}
+use Rattle.replies.specs.Reply.{replied}
 
 module _ (number node : ℕ) (left right out : List ℕ) where
   pub single-unlisted : componentOf number ≡ N.Unlisted → outcome 2 0 out ≡ single narrow number node left right out

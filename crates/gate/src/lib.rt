@@ -5,42 +5,14 @@ use base::Numbered;
 use base::form;
 use base::form::Form;
 use base::refusals;
-use bytes::Put;
-use plan::Walked;
+use plan_leaves::Walked;
 ghost use mathlib.Core.Path.{_≡_};
-ghost use mathlib.Core.List.{List};
-ghost use Prim.Native.Nat.{ℕ, _%_, _^_, _<_};
+ghost use Prim.Native.Nat.{_%_, _^_};
 ghost use Rattle.base.specs.Form.{narrow};
-ghost use Rattle.transforms.specs.Single.{packed, delivery, single};
-ghost use Rattle.transforms.specs.Code.{stepIn, Held};
-ghost use lib.ListN.{length};
-ghost use Rattle.plan.specs.Walk as Walk;
-ghost use Rattle.plan.specs.Code.{walked};
-ghost use Rattle.plan.specs.Demand.{Contained};
-ghost use Rattle.gate.specs.Reply.{replied, Ended};
-
-// What the value of a reply is multiplied by.
-const VALUE_UNIT: u64 = 4294967296;
-
-// The code in the low 32 bits, the value in the high 32.
-fn reply(code: u32, value: usize) -> u64
-    requires { ⌜ value < 2 ^ 32 ⌝ }
-    ensures { λ r. ⌜ r ≡ packed code value ⌝ }
-{
-    (code as u64) + VALUE_UNIT * (value as u64)
-}
-
-// Delivers what a step left in the scratch, and replies. A refusal leaves every byte of `out` as it was.
-fn deliver_reply(put: Put, scratch: &[u8], out: &mut [u8]) -> u64
-    requires { ⌜ Held put (length (now scratch)) × (length (now scratch) < 2 ^ 32) ⌝ }
-    ensures { λ r. ⌜ replied r (now (out .exit)) ≡ delivery (stepIn put (now (scratch .entry))) (now (out .entry)) ⌝ }
-{
-    let delivered = transforms::deliver_sheet(put, scratch, out);
-    match delivered {
-        Put::At(n) => reply(0, n),
-        Put::Refused(k) => reply(k, 0),
-    }
-}
+ghost use Rattle.calls.specs.Single.{single};
+ghost use Rattle.calls.specs.Walk as Walk;
+ghost use Rattle.containment.specs.Demand.{Contained};
+ghost use Rattle.replies.specs.Reply.{replied};
 
 // The step works in buffers that are made here; those for categories only where some are mapped or combined.
 #[no_mangle]
@@ -55,11 +27,11 @@ pub extern "C" fn propagate_property(
 {
     let numbered = Component::from_number(component);
     let Numbered::Is(c) = numbered else {
-        return reply(refusals::NO_COMPONENT, 0);
+        return replies::reply(refusals::NO_COMPONENT, 0);
     };
     let f = Form::Narrow;
     let mut first = [0u8; form::NARROW_ENDS_ROOM];
-    if transforms::joins_lists(f, c, left, right) {
+    if lending::joins_lists(f, c, left, right) {
         let mut second = [0u8; form::NARROW_VALUES_ROOM];
         let mut us = [0i64; form::NARROW_CATEGORY_LIMIT];
         let mut bs = [0i64; form::NARROW_CATEGORY_LIMIT];
@@ -80,7 +52,7 @@ pub extern "C" fn propagate_property(
             &mut hints,
             &mut scratch,
         );
-        return deliver_reply(put, &scratch, out);
+        return replies::deliver_reply(put, &scratch, out);
     }
     let mut second = [0u8; form::NARROW_ENDS_ROOM];
     let mut us = [0i64; 0];
@@ -102,19 +74,7 @@ pub extern "C" fn propagate_property(
         &mut hints,
         &mut scratch,
     );
-    deliver_reply(put, &scratch, out)
-}
-
-// The reply of a plan that was walked to its end or to a refusal.
-fn walked_reply(answer: Walked) -> u64
-    requires { ⌜ Ended answer ⌝ }
-    ensures { λ r. ⌜ ((p work : List ℕ) → replied r work ≡ walked p answer work) ⌝ }
-{
-    match answer {
-        Walked::Accepted(nodes) => reply(0, nodes),
-        Walked::Refused(k, node) => reply(k, node),
-        Walked::Next(k) => 0,
-    }
+    replies::deliver_reply(put, &scratch, out)
 }
 
 // All steps work in the same buffers; those for categories are made where the first step may use them. `contained` is demand 3, of the work buffer as it was
@@ -124,9 +84,9 @@ pub extern "C" fn propagate_properties(plan: &[u8], work: &mut [u8]) -> u64
     ensures bytes { λ r. ⌜ replied r (now (work .exit)) ≡ Walk.plan narrow (now (plan .entry)) (now (work .entry)) ⌝ }
     ensures contained { λ r. ⌜ (r % 2 ^ 32 ≡ 0 → Contained narrow (now (plan .entry)) (now (work .entry)) (now (work .exit))) ⌝ }
 {
-    let begun = plan::begin(plan, work);
+    let begun = plan_leaves::begin(plan, work);
     let Walked::Next(k) = begun else {
-        return walked_reply(begun);
+        return replies::walked_reply(begun);
     };
     let mut scratch = [0u8; form::NARROW_RANGE_LONGEST];
     let mut first = [0u8; form::NARROW_ENDS_ROOM];
@@ -149,7 +109,7 @@ pub extern "C" fn propagate_properties(plan: &[u8], work: &mut [u8]) -> u64
         &mut scratch,
     );
     let Walked::Next(m) = ranges else {
-        return walked_reply(ranges);
+        return replies::walked_reply(ranges);
     };
     let mut second = [0u8; form::NARROW_VALUES_ROOM];
     let mut us = [0i64; form::NARROW_CATEGORY_LIMIT];
@@ -170,5 +130,5 @@ pub extern "C" fn propagate_properties(plan: &[u8], work: &mut [u8]) -> u64
         &mut hints,
         &mut scratch,
     );
-    walked_reply(all)
+    replies::walked_reply(all)
 }

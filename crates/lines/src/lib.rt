@@ -177,7 +177,7 @@ pub fn field(s: &[u8], k: usize) -> &[u8]
 // ---- numbers and bytes
 
 // A lower-case hexadecimal digit.
-pub fn hex_digit(b: u8) -> Digit
+fn hex_digit(b: u8) -> Digit
     ensures { λ r. ⌜ (r ≡ hexDigit b) × Below 16 r ⌝ }
 {
     match b {

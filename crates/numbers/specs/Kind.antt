@@ -30,6 +30,9 @@ pub record Span (E : Type 0) : Type 0 where
   pub lower : Option E
   pub upper : Option E
 
+abbrev pub spanOf : {E : Type 0} → Option E → Option E → Span E
+spanOf l u = record { lower = l; upper = u }
+
 -- 01, 24: a result that leaves 64 signed bits is refused
 abbrev pub fitting : Checked → Result ℤ
 fitting (Fits z) = ok z

@@ -1,9 +1,1 @@
-pub mod Form
-pub mod Walk
-pub mod Exact
-pub mod Demand
-pub mod Within
-pub mod Asks
-pub mod Good
 pub mod Code
-pub mod Shown

@@ -14,14 +14,14 @@ use Rattle.numbers.specs.Result.{Result, ok, refused, andThen}
 use Rattle.numbers.specs.Kind.{Span}
 use Rattle.utilities.specs.Lists.{listFrom}
 use Rattle.utilities.specs.Columns.{eachPair}
-use Rattle.base.specs.Encode.{joined, endBytes}
+use Rattle.base.specs.Encode.{joined, endBytes, lowersOf, uppersOf}
 use Rattle.base.specs.Code.{boundBytes}
 use Rattle.base.specs.declared.Bound.{Bound}
 use Rattle.ends.specs.Code.{endsOf}
 use Rattle.ends.specs.declared.Range.{Range}
 use Rattle.ends.specs.declared.Ends.{Ends}
 use Rattle.ends.specs.declared.Ends.the-variants as S
-use Rattle.writer.specs.Written.{Written, lowersOf, uppersOf}
+use Rattle.writer.specs.Written.{Written}
 use Rattle.ranges.specs.Chained.{after, columnThen, columnsIn, columnsFrom}
 
 -- ---- a range of one kind in writing
@@ -34,7 +34,7 @@ module _ {E : Type 0} (bits : E → ℕ) (nature : ℕ) where
   module _ (bound : Option E → Bound) (same : (e : Option E) → boundBytes (bound e) ≡ endBytes bits e) where
     column-is : (g : Result (Span E)) (gs : Result (List (Span E)))
         → andThen (andThen g (λ z. andThen gs (λ zs. ok (z ∷ zs)))) (λ zs. ok (inKind zs)) ≡ columnThen (endsOf bound g) (andThen gs (λ zs. ok (inKind zs)))
-    unfolding columnThen after lowersOf uppersOf joined
+    unfolding columnThen after joined
     column-is (refused k) gs = refl
     column-is (ok z) (refused k) = refl
     column-is (ok z) (ok zs) =
@@ -43,7 +43,7 @@ module _ {E : Type 0} (bits : E → ℕ) (nature : ℕ) where
 
     module _ (rule : Span E → Span E → Result (Span E)) (x y : ℕ → Span E) (f : ℕ → Ends) (by : (j : ℕ) → f j ≡ endsOf bound (rule (x j) (y j))) where
       pub chain-is : (n j : ℕ) → andThen (eachPair rule (listFrom n j x) (listFrom n j y)) (λ zs. ok (inKind zs)) ≡ columnsFrom nature f n j
-      unfolding eachPair listFrom columnsFrom lowersOf uppersOf joined
+      unfolding eachPair listFrom columnsFrom joined
       chain-is zero j = refl
       chain-is (suc n) j =
           column-is (rule (x j) (y j)) (eachPair rule (listFrom n (j + 1) x) (listFrom n (j + 1) y))

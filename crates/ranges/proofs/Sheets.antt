@@ -6,9 +6,10 @@ use mathlib.Core.Option.{Option, none, some}
 use Prim.Native.Nat.{ℕ}
 use lib.IntN.{ℤ}
 use lib.Ieee as Ieee
+use lib.ListN.{length}
 use Rattle.numbers.specs.Result.{Result, ok, refused, andThen, Check, check, checked}
 use Rattle.numbers.specs.Kind as K
-use Rattle.numbers.specs.Kind.{Span}
+use Rattle.numbers.specs.Kind.{Span, spanOf}
 use Rattle.utilities.specs.Lists.{listFrom, repeated}
 use Rattle.utilities.specs.Columns.{spreads, eachPair}
 use Rattle.base.specs.Form.{Form, wholeRangeNature, floatRangeNature, groupCount, listCount, lowerAt, upperAt}
@@ -19,12 +20,12 @@ use Rattle.base.specs.Code.{ofWhole, ofFloat, boundBytes}
 use Rattle.base.specs.declared.Bound.{Bound}
 use Rattle.base.specs.declared.Component.{Component}
 use Rattle.base.proofs.Ends.{whole-end, float-end}
-use Rattle.ends.specs.Ends.{endRule, spanOf}
+use Rattle.ends.specs.Ends.{endRule}
 use Rattle.ends.specs.Code.{wholeSpan, floatSpan, endsOf}
 use Rattle.ends.specs.declared.Ends.{Ends}
 use Rattle.writer.specs.Written.{Written, writtenOf, inWriting}
-use Rattle.ranges.specs.Ranges.{wholeRule, rangePair, rangeNature}
-use Rattle.ranges.specs.Chained.{spreadsOver, entryOf, rangeAt, columnEnds, columnAt, rangeNumber, columnsFrom}
+use Rattle.ends.specs.Ranges.{wholeRule, rangePair, rangeNature}
+use Rattle.ranges.specs.Chained.{entryOf, rangeAt, columnEnds, columnAt, rangeNumber, columnsFrom}
 use Rattle.ranges.proofs.Spread.{spreads-from, repeated-from}
 use Rattle.ranges.proofs.Chain.{inKind, chain-is}
 
@@ -65,18 +66,18 @@ abbrev columnIn : {E : Type 0} → Form → (ℕ → E) → List ℕ → ℕ →
 columnIn F read s j = spanAt F s read (groupCount F s) (listCount F s) (entryOf (listCount F s) j)
 
 module _ (F : Form) {E : Type 0} (read : ℕ → E) (columns : ℕ) (s : List ℕ) where
-  count-is : spreads columns (entries F s read) ≡ spreadsOver columns (listCount F s)
+  count-is : spreads columns (length (entries F s read)) ≡ spreads columns (listCount F s)
   unfolding entries
   count-is = spreads-from columns (spanAt F s read (groupCount F s) (listCount F s)) (listCount F s)
 
-  spread-is : spreadsOver columns (listCount F s) ≡ true → repeated columns (entries F s read) ≡ listFrom columns 0 (columnIn F read s)
+  spread-is : spreads columns (listCount F s) ≡ true → repeated columns (entries F s read) ≡ listFrom columns 0 (columnIn F read s)
   unfolding entries
   spread-is h = repeated-from columns (spanAt F s read (groupCount F s) (listCount F s)) (listCount F s) h
 
 -- 18, left's list first
 abbrev pub evenness : Form → ℕ → List ℕ → List ℕ → List Check
 evenness F columns l r =
-    check 18 (not (spreadsOver columns (listCount F l))) ∷ check 18 (not (spreadsOver columns (listCount F r))) ∷ []
+    check 18 (not (spreads columns (listCount F l))) ∷ check 18 (not (spreads columns (listCount F r))) ∷ []
 
 module _ (F : Form) {E : Type 0} (read : ℕ → E) (bits : E → ℕ) (nature : ℕ) (bound : Option E → Bound) (same : (e : Option E) → boundBytes (bound e) ≡ endBytes bits e) where
   module _ (rule : Span E → Span E → Result (Span E)) (columns : ℕ) (l r : List ℕ) (f : ℕ → Ends) (by : (j : ℕ) → f j ≡ endsOf bound (rule (columnIn F read l j) (columnIn F read r j))) where
@@ -87,13 +88,13 @@ module _ (F : Form) {E : Type 0} (read : ℕ → E) (bits : E → ℕ) (nature :
     unfolding rangePair checked
     kind-is =
         rw (count-is F read columns l, count-is F read columns r)
-        (go (spreadsOver columns (listCount F l)) refl (spreadsOver columns (listCount F r)) refl)
+        (go (spreads columns (listCount F l)) refl (spreads columns (listCount F r)) refl)
       where
         pairs : Result (List (Span E))
         pairs = eachPair rule (repeated columns (entries F l read)) (repeated columns (entries F r read))
 
         go :
-            (t : Bool) → spreadsOver columns (listCount F l) ≡ t → (u : Bool) → spreadsOver columns (listCount F r) ≡ u
+            (t : Bool) → spreads columns (listCount F l) ≡ t → (u : Bool) → spreads columns (listCount F r) ≡ u
             → inBytes (cond (not t) (refused 18) (cond (not u) (refused 18) pairs))
             ≡ cond (not t) (refused 18) (cond (not u) (refused 18) (columnsFrom nature f columns 0))
         go false hl u hr = refl

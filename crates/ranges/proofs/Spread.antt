@@ -5,15 +5,15 @@ use mathlib.Core.List.{List, _∷_}
 use mathlib.Core.Logic.{_⊎_, inl, inr, ⊎-elim}
 use Prim.Native.Nat.{ℕ, zero, suc, _+_}
 use lib.Dec.{eqb}
-use lib.ListN.{replicate}
+use lib.ListN.{length, replicate}
 use borrow.Author.Tests.{eqb-true, eqb-false, eq-eqb, ne-eqb}
 use Rattle.utilities.specs.Lists.{listFrom, repeated}
 use Rattle.utilities.specs.Columns.{spreads}
 use Rattle.utilities.proofs.Built.{listFrom-length}
 use Rattle.utilities.proofs.Repeated.{repeated-full}
-use Rattle.ranges.specs.Chained.{spreadsOver, entryOf}
+use Rattle.ranges.specs.Chained.{entryOf}
 
-pub one-of : (columns n : ℕ) → spreadsOver columns n ≡ true → (n ≡ columns) ⊎ (n ≡ 1)
+pub one-of : (columns n : ℕ) → spreads columns n ≡ true → (n ≡ columns) ⊎ (n ≡ 1)
 one-of columns n h = go (eqb n columns) refl h
   where
     go : (t : Bool) → eqb n columns ≡ t → (t || eqb n 1) ≡ true → (n ≡ columns) ⊎ (n ≡ 1)
@@ -39,14 +39,14 @@ module _ {X : Type 0} where
   replicate-from x (suc n) i = ap (λ (l : List X). x ∷ l) (replicate-from x n (i + 1))
 
   module _ (columns : ℕ) (f : ℕ → X) where
-    pub spreads-from : (n : ℕ) → spreads columns (listFrom n 0 f) ≡ spreadsOver columns n
-    spreads-from n = ap (spreadsOver columns) (listFrom-length f n 0)
+    pub spreads-from : (n : ℕ) → spreads columns (length (listFrom n 0 f)) ≡ spreads columns n
+    spreads-from n = ap (spreads columns) (listFrom-length f n 0)
 
     one-repeated : repeated columns (listFrom 1 0 f) ≡ listFrom columns 0 (λ j. f 0)
     unfolding repeated listFrom
     one-repeated = replicate-from (f 0) columns 0
 
-    pub repeated-from : (n : ℕ) → spreadsOver columns n ≡ true → repeated columns (listFrom n 0 f) ≡ listFrom columns 0 (λ j. f (entryOf n j))
+    pub repeated-from : (n : ℕ) → spreads columns n ≡ true → repeated columns (listFrom n 0 f) ≡ listFrom columns 0 (λ j. f (entryOf n j))
     repeated-from n h = go (eqb n 1) refl
       where
         go : (t : Bool) → eqb n 1 ≡ t → repeated columns (listFrom n 0 f) ≡ listFrom columns 0 (λ j. f (entryOf n j))

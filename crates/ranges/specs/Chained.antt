@@ -1,5 +1,5 @@
 -- A range in writing, column after column, as the code derives it.
-use mathlib.Core.Bool.{Bool, cond, _||_}
+use mathlib.Core.Bool.{Bool, cond}
 use mathlib.Core.List.{List, [], _++_}
 use Prim.Native.Nat.{ℕ, zero, suc, _+_, _*_}
 use lib.Dec.{eqb}
@@ -15,11 +15,7 @@ use Rattle.ends.specs.declared.Ends.{Ends}
 use Rattle.ends.specs.declared.Ends.the-variants as S
 use Rattle.writer.specs.Written.{Written}
 use Rattle.writer.specs.declared.Parts.{Parts}
-use Rattle.ranges.specs.Ranges.{wholeRule}
-
--- `spreads`, of a list of n entries
-abbrev pub spreadsOver : ℕ → ℕ → Bool
-spreadsOver columns n = eqb n columns || eqb n 1
+use Rattle.ends.specs.Ranges.{wholeRule}
 
 -- the entry of n that column j takes
 abbrev pub entryOf : ℕ → ℕ → ℕ

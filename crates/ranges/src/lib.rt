@@ -12,23 +12,24 @@ ghost use mathlib.Core.Path.{_≡_};
 ghost use mathlib.Core.Bool.{true, false};
 ghost use Prim.Native.Nat.{_*_, _^_, _≤_, _<_};
 ghost use lib.ListN.{length};
+ghost use Rattle.utilities.specs.Columns.{spreads};
 ghost use Rattle.base.specs.Form.{formOf, natureAt, byteAt, isRangeNature};
 ghost use Rattle.base.specs.Checks.{sizesFail};
 ghost use Rattle.base.specs.Sized.{RangeFits};
 ghost use Rattle.writer.specs.Written.{inWriting, derivedIn, endsRoom, Within};
-ghost use Rattle.ranges.specs.Ranges.{rangeNature};
-ghost use Rattle.ranges.specs.Chained.{spreadsOver, entryOf, rangeAt, columnEnds, columnAt, rangeNumber, rangeParts, columnsFrom};
+ghost use Rattle.ends.specs.Ranges.{rangeNature};
+ghost use Rattle.ranges.specs.Chained.{entryOf, rangeAt, columnEnds, columnAt, rangeNumber, rangeParts, columnsFrom};
 
 // Whether a list has one entry, or one per column.
 fn spreads(columns: usize, n: usize) -> bool
-    ensures { λ r. ⌜ r ≡ spreadsOver columns n ⌝ }
+    ensures { λ r. ⌜ r ≡ spreads columns n ⌝ }
 {
     (n == columns) | (n == 1)
 }
 
 // The entry of n that column j takes: its own, or the only one.
 fn entry_of(columns: usize, n: usize, j: usize) -> usize
-    requires { ⌜ (spreadsOver columns n ≡ true) × (j < columns) ⌝ }
+    requires { ⌜ (spreads columns n ≡ true) × (j < columns) ⌝ }
     ensures { λ r. ⌜ (r ≡ entryOf n j) × (r < n) ⌝ }
 {
     if n == 1 { 0 } else { j }
@@ -70,7 +71,7 @@ fn column_at(
     r: Sizes,
     j: usize,
 ) -> Ends
-    requires { ⌜ RangeFits (formOf f) (now left) (l .groups) (l .lists) × (spreadsOver columns (l .lists) ≡ true) × RangeFits (formOf f) (now right) (r .groups) (r .lists) × (spreadsOver columns (r .lists) ≡ true) × (j < columns) ⌝ }
+    requires { ⌜ RangeFits (formOf f) (now left) (l .groups) (l .lists) × (spreads columns (l .lists) ≡ true) × RangeFits (formOf f) (now right) (r .groups) (r .lists) × (spreads columns (r .lists) ≡ true) × (j < columns) ⌝ }
     ensures { λ e. ⌜ e ≡ columnAt (formOf f) float c data_type (now (left .entry)) (now (right .entry)) j ⌝ }
 {
     let i = entry_of(columns, l.lists, j);
@@ -120,7 +121,7 @@ fn put_columns(
     lowers: &mut [u8],
     uppers: &mut [u8],
 ) -> Derived
-    requires { ⌜ RangeFits (formOf f) (now left) (l .groups) (l .lists) × (spreadsOver columns (l .lists) ≡ true) × RangeFits (formOf f) (now right) (r .groups) (r .lists) × (spreadsOver columns (r .lists) ≡ true) × (columns ≤ formOf f .columnLimit) × (9 * columns ≤ length (now lowers)) × (9 * columns ≤ length (now uppers)) ⌝ }
+    requires { ⌜ RangeFits (formOf f) (now left) (l .groups) (l .lists) × (spreads columns (l .lists) ≡ true) × RangeFits (formOf f) (now right) (r .groups) (r .lists) × (spreads columns (r .lists) ≡ true) × (columns ≤ formOf f .columnLimit) × (9 * columns ≤ length (now lowers)) × (9 * columns ≤ length (now uppers)) ⌝ }
     ensures { λ d. ⌜ (derivedIn d (now (lowers .exit)) (now (uppers .exit)) ≡ columnsFrom (rangeNumber float) (columnAt (formOf f) float c data_type (now (left .entry)) (now (right .entry))) columns 0) × Within (formOf f) (endsRoom (formOf f)) (now (lowers .exit)) (now (uppers .exit)) d ⌝ }
 {
     let mut at = 0;

@@ -1,31 +1,13 @@
 // Replays the two stored lists through the gate, that of single calls, which the first argument names, and that of plans, which the second names:
 // every answer and every byte of each lent buffer is compared.
-mod answer; // what the gate answers, held against the list
-mod single; // a line of the list of calls, and its call
-mod tally; // what lines come to, and their counts
-mod walk; // a line of the list of plans, and its plan call
+mod tally; // how many lines come to what
 
-ghost use Rattle.lines.specs.Fields.{isComment};
-ghost use Rattle.replay.specs.Answers.{Judged};
-ghost use Rattle.replay.specs.ListLine.{defined, stored};
+use answers::Outcome;
+use answers::Stored;
 use libc::STDOUT_FILENO;
 use lines::Line;
 use lines::Window;
-use tally::Outcome;
-use tally::Stored;
 use tally::Tally;
-
-fn judged(list: Stored, line: &[u8]) -> Outcome
-    ensures { λ r. ⌜ Judged (isComment (now (line .entry))) r (defined list (now (line .entry))) (stored list (now (line .entry))) ⌝ }
-{
-    if lines::is_comment(line) {
-        return Outcome::Comment;
-    }
-    match list {
-        Stored::Calls => single::judged(line),
-        Stored::Plans => walk::judged(line),
-    }
-}
 
 // Says which line could not be read, or what the gate answered where it differs.
 fn report(list: Stored, line: u64, o: Outcome) {
@@ -41,8 +23,8 @@ fn report(list: Stored, line: u64, o: Outcome) {
             tally::name(list);
             io::write_all(STDOUT_FILENO, b"line ");
             words::say(line, b" differs: code ");
-            words::say(answer::code_of(reply), b", value ");
-            words::say(answer::value_of(reply), b"\n");
+            words::say(answers::code_of(reply), b", value ");
+            words::say(answers::value_of(reply), b"\n");
         }
     }
 }
@@ -57,7 +39,7 @@ fn replay(list: Stored, fd: i32, buf: &mut [u8]) -> Tally {
         let Line::Is { from, to, rest } = line else {
             return tally;
         };
-        let outcome = judged(list, &buf[from..to]);
+        let outcome = answers::judged(list, &buf[from..to]);
         tally = tally.counted(outcome);
         report(list, tally.lines, outcome);
         window = rest;

@@ -1,66 +1,15 @@
-// What the lines of a list come to, and how many come to what.
-ghost use Prim.Native.Nat.{_<_, _≤_};
-use base::refusals;
+// How many lines of a list come to what.
+ghost use mathlib.Core.Path.{_≡_};
+ghost use Prim.Native.Nat.{_<_};
+ghost use lib.ListN.{replicate};
+ghost use Rattle.replay.specs.Counts.{oneMore, placeOf, Counted};
+use answers::Outcome;
+use answers::Stored;
+use answers::Told;
 use libc::STDOUT_FILENO;
 
 // The components are 1 to 9; 0 stands for every other number, and for a plan.
 const PLACES: usize = 10;
-
-pub enum Stored {
-    Calls,
-    Plans,
-}
-
-// What a list says of a call or a plan.
-pub enum Told {
-    Accepted,
-    // At a step, where it is a plan's.
-    Refused,
-    AtLeaf,
-    Malformed,
-    Short,
-}
-
-impl Told {
-    pub fn of_call(code: u32) -> Self {
-        match code {
-            0 => Told::Accepted,
-            refusals::NO_ROOM => Told::Short,
-            _ => Told::Refused,
-        }
-    }
-
-    // The nodes before `leaves` are the leaves.
-    pub fn of_plan(code: u32, node: u32, leaves: usize) -> Self {
-        match code {
-            0 => Told::Accepted,
-            refusals::MALFORMED => Told::Malformed,
-            refusals::NO_ROOM => Told::Short,
-            _ => {
-                if (node as usize) < leaves {
-                    Told::AtLeaf
-                } else {
-                    Told::Refused
-                }
-            }
-        }
-    }
-}
-
-// The component, 0 for a plan, and what the list says.
-pub struct Said {
-    pub component: u32,
-    pub told: Told,
-}
-
-pub enum Outcome {
-    Comment,
-    // Not in the list's form.
-    Unread,
-    Agrees(Said),
-    // And the gate's reply.
-    Differs(Said, u64),
-}
 
 pub struct Tally {
     pub lines: u64,
@@ -78,13 +27,13 @@ pub struct Tally {
 
 // One more; the largest number stays.
 fn more(n: u64) -> u64
-    ensures { λ r. ⌜ n ≤ r ⌝ }
+    ensures { λ r. ⌜ r ≡ oneMore n ⌝ }
 {
     if n == u64::MAX { n } else { n + 1 }
 }
 
 fn place(component: u32) -> usize
-    ensures { λ r. ⌜ r < 10 ⌝ }
+    ensures { λ r. ⌜ (r < 10) × (r ≡ placeOf component) ⌝ }
 {
     if component < 10 {
         component as usize
@@ -94,7 +43,9 @@ fn place(component: u32) -> usize
 }
 
 impl Tally {
-    pub fn new() -> Self {
+    pub(crate) fn new() -> Self
+        ensures { λ r. ⌜ (r .lines ≡ 0) × (r .unread ≡ 0) × (r .agree ≡ replicate 10 0) × (r .differ ≡ replicate 10 0) ⌝ }
+    {
         Tally {
             lines: 0,
             unread: 0,
@@ -108,7 +59,9 @@ impl Tally {
         }
     }
 
-    fn with_told(mut self, told: Told) -> Self {
+    fn with_told(mut self, told: Told) -> Self
+        ensures { λ r. ⌜ (r .lines ≡ self .lines) × (r .unread ≡ self .unread) × (r .agree ≡ self .agree) × (r .differ ≡ self .differ) ⌝ }
+    {
         match told {
             Told::Accepted => self.accepted = more(self.accepted),
             Told::Refused => self.refused = more(self.refused),
@@ -120,7 +73,9 @@ impl Tally {
     }
 
     // With one line more.
-    pub fn counted(mut self, o: Outcome) -> Self {
+    pub(crate) fn counted(mut self, o: Outcome) -> Self
+        ensures { λ r. ⌜ (r .lines ≡ oneMore (self .lines)) × Counted o self r ⌝ }
+    {
         self.lines = more(self.lines);
         match o {
             Outcome::Comment => self,
@@ -143,7 +98,7 @@ impl Tally {
         }
     }
 
-    pub fn print(self, list: Stored) {
+    pub(crate) fn print(self, list: Stored) {
         let agree = self.agree;
         let differ = self.differ;
         name(list);
@@ -176,7 +131,7 @@ impl Tally {
 }
 
 // A list's name, which begins what is said of it.
-pub fn name(list: Stored) {
+pub(crate) fn name(list: Stored) {
     match list {
         Stored::Calls => io::write_all(STDOUT_FILENO, b"single calls: "),
         Stored::Plans => io::write_all(STDOUT_FILENO, b"plans: "),
@@ -195,8 +150,7 @@ fn sum(counts: &[u64; PLACES]) -> u64 {
 }
 
 fn print_place(component: u32, agree: u64, differ: u64) {
-    words::component(component);
-    io::write_all(STDOUT_FILENO, b": ");
+    words::component(component, b": ");
     words::say(agree, b" agree, ");
     words::say(differ, b" differ\n");
 }

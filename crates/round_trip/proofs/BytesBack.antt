@@ -12,8 +12,8 @@ use lib.ListN.{length}
 use borrow.Author.Tests.{leb-true}
 use Rattle.bytes.proofs.Reread.{AllBytes}
 use Rattle.base.specs.Form.{Form, Laid, place, natureAt, rowsAt, groupCount, entriesAt}
-use Rattle.base.specs.Decode.{natureIn, fieldsIn, decode}
-use Rattle.base.specs.Encode.{natureNumber, sizeBytes, markBytes, encode}
+use Rattle.base.specs.Decode.{natureIn, fieldsIn, groupsIn, decode}
+use Rattle.base.specs.Encode.{natureNumber, entryCount, valueCount, sizeBytes, markBytes, encode}
 use Rattle.base.specs.Checks.{sizesFail, fieldsFail, boundsFail}
 use Rattle.base.proofs.Passed.{Passed, passed, long-enough, groups-fit}
 use Rattle.base.proofs.Permitted.{permitted}
@@ -25,8 +25,7 @@ use Rattle.round_trip.proofs.Spelled.{SpelledBy, nature-spelled}
 use Rattle.round_trip.proofs.Back.{sheet-back}
 
 module _ {F : Form} (laid : Laid F) (s : List ℕ) (small : AllBytes s) where
-  sizes-fill : SpelledBy F s (natureIn F s) → F .arraysAt ≤ length s → Filling s 0 (place F natureAt) (sizeBytes F (decode F s))
-  unfolding sizeBytes decode
+  sizes-fill : SpelledBy F s (natureIn F s) → F .arraysAt ≤ length s → Filling s 0 (place F natureAt) (sizeBytes F (length (groupsIn F s)) (entryCount (natureIn F s)) (valueCount (natureIn F s)))
   sizes-fill k long =
       let w = F .sizeWidth in
       fill-number small w 0 {b = w} (groups-length F s) (omega arith) (omega arith)
@@ -43,7 +42,7 @@ module _ {F : Form} (laid : Laid F) (s : List ℕ) (small : AllBytes s) where
       let k = nature-spelled F s small z (p .nature) bounds (leb-true _ _ (c .nature)) in
       let marks : Filling s (place F natureAt) (place F rowsAt) (markBytes (natureNumber (natureIn F s)) (fieldsIn F s)) = rw (k .number) (marks-fill laid s small long c) in
       let groups = fill-part (13 * groupCount F s) {b = entriesAt F (groupCount F s)} (groups-copied F s small (groups-fit z .room)) refl in
-      fill-all (sizes-fill k long then marks then values-fill laid s small long c then node-fills laid s small long then gap-fills laid s small long c then groups then k .bytes)
+      fill-all ((sizes-fill k long then marks then values-fill laid s small long c then node-fills laid s small long then gap-fills laid s small long c) then groups then k .bytes)
 
 module _ {F : Form} (laid : Laid F) {s : List ℕ} (small : AllBytes s) (p : Passed F s) where
   pub passed-back : encode F (decode F s) ≡ s

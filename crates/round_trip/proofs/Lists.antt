@@ -20,21 +20,14 @@ use Rattle.utilities.specs.Lists.{listFrom}
 use Rattle.utilities.proofs.Built.{listFrom-length, listFrom-at}
 use Rattle.base.specs.Form.{Form, entriesAt, numberAt, valueAt}
 use Rattle.base.specs.Decode.{prepended, listNumber, categoryAt, listAt}
-use Rattle.base.specs.Encode.{joined, total, numbersFrom, listsBytes}
-use Rattle.round_trip.specs.WellFormed.{Each, ListsFit}
+use Rattle.base.specs.Encode.{joined, total, listBytes, numberBytes, numbersFrom, listsBytes}
+use Rattle.round_trip.specs.WellFormed.{Each, CategoriesFit}
 use Rattle.round_trip.proofs.Standing.{Standing, standing-at, standing-left, standing-right, number-back}
 use Rattle.round_trip.proofs.Values.{Back, value-back}
 use Rattle.round_trip.proofs.Arrays.{joined-length, next-place}
 
--- the two arrays' bytes of one list: its number, once for each value, and its values
-abbrev pub numbersOf : {X : Type 0} → Form → ℕ → List X → List ℕ
-numbersOf F m l = joined (λ v. leBytes (F .numberWidth) m) l
-
-abbrev pub listBytes : {X : Type 0} → (X → ℕ) → List X → List ℕ
-listBytes bits l = joined (λ v. leBytes 8 (bits v)) l
-
-pub numbersOf-length : {X : Type 0} (F : Form) (m : ℕ) (l : List X) → length (numbersOf F m l) ≡ F .numberWidth * length l
-numbersOf-length F m l = joined-length (λ v. leBytes (F .numberWidth) m) (F .numberWidth) (λ v. length-leBytes (F .numberWidth) m) l
+pub numberBytes-length : {X : Type 0} (F : Form) (m : ℕ) (l : List X) → length (numberBytes F m l) ≡ F .numberWidth * length l
+numberBytes-length F m l = joined-length (λ v. leBytes (F .numberWidth) m) (F .numberWidth) (λ v. length-leBytes (F .numberWidth) m) l
 
 pub listBytes-length : {X : Type 0} (bits : X → ℕ) (l : List X) → length (listBytes bits l) ≡ 8 * length l
 listBytes-length bits l = joined-length (λ v. leBytes 8 (bits v)) 8 (λ v. length-leBytes 8 (bits v)) l
@@ -43,7 +36,7 @@ module _ {X : Type 0} where
   pub numbers-length : (F : Form) (ls : List (List X)) (m : ℕ) → length (numbersFrom F m ls) ≡ F .numberWidth * total ls
   unfolding numbersFrom total
   numbers-length F [] m = rw mul-zero
-  numbers-length F (l ∷ ls) m = rw (length-append, numbersOf-length F m l, numbers-length F ls (m + 1)) (sym (mul-add (F .numberWidth) (length l) (total ls)))
+  numbers-length F (l ∷ ls) m = rw (length-append, numberBytes-length F m l, numbers-length F ls (m + 1)) (sym (mul-add (F .numberWidth) (length l) (total ls)))
 
   values-length : (bits : X → ℕ) (ls : List (List X)) → length (joined (listBytes bits) ls) ≡ 8 * total ls
   unfolding joined total
@@ -66,16 +59,16 @@ seen false x l rest = refl
 module _ {X : Type 0} {P : X → Type 0} {bits : X → ℕ} {read : ℕ → X} (back : Back P bits read) (F : Form) (s : List ℕ) (g t : ℕ) where
   own-list :
       (m j : ℕ) → m < 256 ^ F .numberWidth → (l : List X) (i k : ℕ) → Each P l
-      → Standing s (numberAt F g i) (numbersOf F m l) → Standing s (valueAt F g t i) (listBytes bits l)
+      → Standing s (numberAt F g i) (numberBytes F m l) → Standing s (valueAt F g t i) (listBytes bits l)
       → listAt F s read g t j (length l + k) i ≡ cond (eqb m j) l [] ++ listAt F s read g t j k (i + length l)
   unfolding listAt joined
   own-list m j h [] i k p n v = rw (zero-add, add-zero) (unseen (eqb m j) (listAt F s read g t j k i))
   own-list m j h (x ∷ l) i k p n v =
       let w = F .numberWidth in
-      let here : listNumber F s g i ≡ m = number-back w (standing-left (leBytes w m) (numbersOf F m l) n) h in
+      let here : listNumber F s g i ≡ m = number-back w (standing-left (leBytes w m) (numberBytes F m l) n) h in
       let value : read (categoryAt F s g t i) ≡ x = value-back back x (p .0) (standing-left (leBytes 8 (bits x)) (listBytes bits l) v) in
       let rest = own-list m j h l (i + 1) k (p .1)
-      (standing-right (leBytes w m) (numbersOf F m l) n (next-place (entriesAt F g) w i 1 (rw (length-leBytes w m) (omega arith))))
+      (standing-right (leBytes w m) (numberBytes F m l) n (next-place (entriesAt F g) w i 1 (rw (length-leBytes w m) (omega arith))))
       (standing-right (leBytes 8 (bits x)) (listBytes bits l) v (next-place (entriesAt F g + w * t) 8 i 1 (rw (length-leBytes 8 (bits x)) (omega arith)))) in
       let behind : i + 1 + length l ≡ i + suc (length l) = omega arith in
       rw (suc-add, here, value, rest, behind) (seen (eqb m j) x l (listAt F s read g t j k (i + suc (length l))))
@@ -93,7 +86,7 @@ module _ {X : Type 0} {P : X → Type 0} {bits : X → ℕ} {read : ℕ → X} (
     filed-rest = record {
       room = omega (arith, f .room);
       fit = f .fit .1;
-      numbers = standing-right (numbersOf F m l) (numbersFrom F (m + 1) ls) (f .numbers) (next-place (entriesAt F g) (F .numberWidth) i (length l) (numbersOf-length F m l));
+      numbers = standing-right (numberBytes F m l) (numbersFrom F (m + 1) ls) (f .numbers) (next-place (entriesAt F g) (F .numberWidth) i (length l) (numberBytes-length F m l));
       values = standing-right (listBytes bits l) (joined (listBytes bits) ls) (f .values) (next-place (entriesAt F g + F .numberWidth * t) 8 i (length l) (listBytes-length bits l));
     }
 
@@ -102,7 +95,7 @@ module _ {X : Type 0} {P : X → Type 0} {bits : X → ℕ} {read : ℕ → X} (
     unfolding joined numbersFrom total
     filed-own j =
         own-list m j (omega (arith, f .room)) l i (total ls) (f .fit .0)
-        (standing-left (numbersOf F m l) (numbersFrom F (m + 1) ls) (f .numbers)) (standing-left (listBytes bits l) (joined (listBytes bits) ls) (f .values))
+        (standing-left (numberBytes F m l) (numbersFrom F (m + 1) ls) (f .numbers)) (standing-left (listBytes bits l) (joined (listBytes bits) ls) (f .values))
 
   earlier : (ls : List (List X)) {m i : ℕ} (j : ℕ) → Filed m i ls → j < m → listAt F s read g t j (total ls) i ≡ []
   unfolding listAt total
@@ -120,7 +113,7 @@ module _ {X : Type 0} {P : X → Type 0} {bits : X → ℕ} {read : ℕ → X} (
       filed-own f (m + suc q) ∙ rw (ne-eqb m (m + suc q) (λ e. omega arith), shift) (list-back ls q (filed-rest f))
 
   pub lists-back :
-      (ls : List (List X)) → ListsFit F P ls → t ≡ total ls → Standing s (entriesAt F g) (listsBytes F bits ls)
+      (ls : List (List X)) → CategoriesFit F P ls → t ≡ total ls → Standing s (entriesAt F g) (listsBytes F bits ls)
       → listFrom (length ls) 0 (λ j. listAt F s read g t j (total ls) 0) ≡ ls
   unfolding listsBytes
   lists-back ls fit e h =

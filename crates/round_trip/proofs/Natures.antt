@@ -16,7 +16,7 @@ use Rattle.base.specs.Sheet.{Group, Nature, absent, wholeRange, floatRange, who
 use Rattle.base.specs.Decode.{asBits, entries, lists, natureIn}
 use Rattle.base.specs.Encode.{wholeBits, floatBits, natureNumber, entryCount, valueCount, total, rangeBytes, listsBytes, natureBytes, encode}
 use Rattle.base.proofs.Natures.{nature-absent, nature-whole-range, nature-float-range, nature-whole-lists, nature-bool-lists, nature-float-lists}
-use Rattle.round_trip.specs.WellFormed.{Each, SpanFits, ListsFit, WellFormed}
+use Rattle.round_trip.specs.WellFormed.{Each, SpanFits, CategoriesFit, WellFormed}
 use Rattle.round_trip.proofs.Standing.{Standing}
 use Rattle.round_trip.proofs.Values.{Back, whole, double, bits}
 use Rattle.round_trip.proofs.Table.{part-at}
@@ -49,7 +49,7 @@ module _ (F : Form) (laid : Laid F) (s : Sheet) (fit : WellFormed F s) (rest : L
       rw (group-count-back F laid s fit rest, list-count-back F laid s fit rest, n) (spans-back back F _ (length (s .groups)) rs each (arrays-at same))
 
   categories-back :
-      (ls : List (List X)) → ListsFit F P ls → entryCount (s .nature) ≡ length ls → valueCount (s .nature) ≡ total ls → natureBytes F (s .nature) ≡ listsBytes F bits ls
+      (ls : List (List X)) → CategoriesFit F P ls → entryCount (s .nature) ≡ length ls → valueCount (s .nature) ≡ total ls → natureBytes F (s .nature) ≡ listsBytes F bits ls
       → lists F (encode F s ++ rest) read ≡ ls
   unfolding lists
   categories-back ls each n k same =

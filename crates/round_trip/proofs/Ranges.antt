@@ -16,8 +16,7 @@ use Rattle.numbers.specs.Kind.{Span}
 use Rattle.base.specs.Form.{Form, groupCount, listCount, entriesAt, lowerAt, upperAt}
 use Rattle.base.specs.Decode.{endAt, spanAt, entries}
 use Rattle.base.specs.Encode.{endBytes, rangeBytes}
-use Rattle.base.specs.Checks.{holdsFrom, endPermitted}
-use Rattle.base.specs.Entries.{endsPermitted}
+use Rattle.base.specs.Checks.{holdsFrom, endPermitted, endsPermitted}
 use Rattle.base.proofs.Flags.{and-both}
 use Rattle.base.proofs.Holding.{holds-within}
 use Rattle.round_trip.proofs.Filling.{Filling, _then_, fill-joined}

@@ -19,8 +19,8 @@ use Rattle.base.specs.Form.{Form, byteAt, natureAt, absentNature, lastNature, i
 use Rattle.base.specs.Sheet.{Nature, absent}
 use Rattle.base.specs.Decode.{asWhole, asFloat, asBits, optionAt, endAt, spanAt, listAt, entries, lists, natureIn}
 use Rattle.base.specs.Encode.{wholeBits, floatBits, natureNumber, entryCount, valueCount, total, rangeBytes, listsBytes, natureBytes}
-use Rattle.base.specs.Checks.{holdsFrom, rangePermitted, listsPermitted, countsPermitted, naturePermitted, unbounded, crossed, boundsFail}
-use Rattle.base.specs.Entries.{endsPermitted, entryHolds}
+use Rattle.base.specs.Checks.{holdsFrom, rangePermitted, listsPermitted, countsPermitted, naturePermitted, unbounded, crossed, boundsFail, endsPermitted}
+use Rattle.base.specs.Entries.{entryHolds}
 use Rattle.base.specs.Sized.{Sized, ListsFit}
 use Rattle.base.proofs.Flags.{and-both, or-no}
 use Rattle.base.proofs.Holding.{holds-within}

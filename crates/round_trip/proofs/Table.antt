@@ -9,7 +9,7 @@ use Rattle.bytes.proofs.Widths.{length-leBytes}
 use Rattle.base.specs.Form.{Form, place, reservedCount, fieldsEnd}
 use Rattle.base.specs.Sheet.{Group, Sheet}
 use Rattle.base.specs.Decode.{asBits}
-use Rattle.base.specs.Encode.{flag, mark, bitsOf, wholeBits, natureNumber, entryCount, valueCount, sizeBytes, markBytes, valueBytes, groupBytes, natureBytes, encode}
+use Rattle.base.specs.Encode.{flag, mark, bitsOf, wholeBits, natureNumber, entryCount, valueCount, markBytes, valueBytes, groupBytes, natureBytes, encode}
 use Rattle.round_trip.proofs.Standing.{Standing, standing-first, standing-at}
 use Rattle.round_trip.proofs.Pieces.{Part, number, byte, zeros, plain, together, partOf, widths, together-length, part-stands}
 use Rattle.round_trip.proofs.Arrays.{array}
@@ -64,7 +64,7 @@ module _ (F : Form) (s : Sheet) where
       ∷ []
 
   in-parts : encode F s ≡ together parts
-  unfolding encode sizeBytes markBytes valueBytes groupBytes
+  unfolding encode markBytes valueBytes groupBytes
   in-parts = simp (append-assoc, append-nil)
 
   pub sheet-length : length (encode F s) ≡ widths parts 27

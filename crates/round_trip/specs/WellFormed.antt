@@ -54,7 +54,7 @@ pub record SpanFits {X : Type 0} (P : X → Type 0) (r : Span X) : Type 0 where
 
 module _ (F : Form) where
   -- lists are numbered from 0, so that the last number is one less than how many they are
-  pub record ListsFit {X : Type 0} (P : X → Type 0) (ls : List (List X)) : Type 0 where
+  pub record CategoriesFit {X : Type 0} (P : X → Type 0) (ls : List (List X)) : Type 0 where
     pub numbers : length ls ≤ 256 ^ F .numberWidth
     pub values : Each (Each P) ls
 
@@ -62,9 +62,9 @@ module _ (F : Form) where
   NatureFits absent = Unit {0}
   NatureFits (wholeRange rs) = Each (SpanFits Whole) rs
   NatureFits (floatRange rs) = Each (SpanFits Double) rs
-  NatureFits (wholeLists ls) = ListsFit Whole ls
-  NatureFits (boolLists ls) = ListsFit Bits ls
-  NatureFits (floatLists ls) = ListsFit Bits ls
+  NatureFits (wholeLists ls) = CategoriesFit Whole ls
+  NatureFits (boolLists ls) = CategoriesFit Bits ls
+  NatureFits (floatLists ls) = CategoriesFit Bits ls
 
   -- the three sizes, and what stands in the fields and the arrays
   pub record WellFormed (s : Sheet) : Type 0 where

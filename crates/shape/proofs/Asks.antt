@@ -1,36 +1,22 @@
--- What the ends of a range are asked, by tests of one end; and of every entry, number by number. Assumes nothing.
+-- When a range spans zero, by tests of one end; and what every entry is asked, number by number. Assumes nothing.
 use mathlib.Core.Path.{_≡_, refl}
-use mathlib.Core.Bool.{Bool, true, false, cond, not, _&&_, _||_}
+use mathlib.Core.Bool.{Bool, true, false, cond, _&&_}
 use mathlib.Core.List.{List}
 use mathlib.Core.Option.{Option, none, some}
 use Prim.Native.Nat.{ℕ}
 use lib.Dec.{eqb}
 use lib.Ieee.{Float}
 use borrow.Author.Tests.{ne-eqb}
-use Rattle.numbers.specs.Kind.{Kind, float, zeroFloat}
+use Rattle.numbers.specs.Kind.{float, zeroFloat}
 use Rattle.base.specs.Form.{Form, natureAt, byteAt, groupCount, listCount}
 use Rattle.base.specs.Sheet.{absent, wholeRange, floatRange, wholeLists, boolLists, floatLists, isWholeRange}
 use Rattle.base.specs.Decode.{asWhole, asFloat, asBits, spanAt, entries, lists, natureIn}
-use Rattle.base.specs.Bounds.{isPresent, positive, nonNegative, suitsAsBase, everyEntry}
+use Rattle.base.specs.Bounds.{isPresent, above, under, everyEntry}
 use Rattle.base.specs.Checks.{holdsFrom}
 use Rattle.base.proofs.Holding.{every-from}
 use Rattle.shape.specs.declared.bounds.Ask.{Ask}
 use Rattle.shape.specs.Fields.{spansZero}
-use Rattle.shape.specs.Asked.{above, under, span, wholeAsked, floatAsked, entryAsked}
-
-module _ {E : Type 0} (K : Kind E) where
-  pub positive-is : (x : Option E) → positive K x ≡ above K (K .zero) x
-  positive-is none = refl
-  positive-is (some a) = refl
-
-  pub non-negative-is : (x : Option E) → nonNegative K x ≡ (isPresent x && not (under K (K .zero) x))
-  non-negative-is none = refl
-  non-negative-is (some a) = refl
-
-  pub suits-is : (x y : Option E) → suitsAsBase K (span x y) ≡ ((above K (K .zero) x && under K (K .one) y) || above K (K .one) x)
-  suits-is none y = refl
-  suits-is (some a) none = refl
-  suits-is (some a) (some c) = refl
+use Rattle.shape.specs.Asked.{wholeAsked, floatAsked, entryAsked}
 
 -- by which of the ends are present
 pub spans-is :

@@ -9,7 +9,7 @@ use Rattle.base.specs.Sheet.{Group}
 use Rattle.base.specs.Decode.{groupAt, groupsIn}
 use Rattle.base.specs.Checks.{holdsFrom}
 use Rattle.shape.specs.Shape.{sameGroup, sameGroups}
-use Rattle.shape.specs.Parts.{groupsMeet}
+use Rattle.shape.specs.Asked.{groupsMeet}
 
 module _ (f h : ℕ → Group) where
   same-from : (n i : ℕ) → sameGroups (listFrom n i f) (listFrom n i h) ≡ holdsFrom n i (λ k. sameGroup (f k) (h k))

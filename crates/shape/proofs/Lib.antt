@@ -1,6 +1,4 @@
 -- What the proofs of several functions, and of the crates above, cite.
-pub mod Refusals
-pub mod Orders
 pub mod Asks
 pub mod Zeros
 pub mod Grouped

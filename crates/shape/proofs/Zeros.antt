@@ -1,6 +1,6 @@
 -- When Divide adds nullity: a range by its entries, float categories by their values, in whichever list they stand. Assumes nothing.
 use mathlib.Core.Path.{_≡_, refl, sym, ap, ap₂, _∙_}
-use mathlib.Core.Bool.{Bool, true, false, cond, not, _&&_, _||_, and-false}
+use mathlib.Core.Bool.{Bool, true, false, cond, not, _&&_, _||_, Bool·not-not}
 use mathlib.Core.List.{List, [], _∷_}
 use Prim.Native.Nat.{ℕ, zero, suc, _+_, _-_, _≤_, _<_}
 use native.Mathlib.Omega.{arith}
@@ -13,10 +13,10 @@ use Rattle.base.specs.Decode.{asWhole, asFloat, asBits, listNumber, categoryAt,
 use Rattle.base.specs.Bounds.{everyEntry}
 use Rattle.base.specs.Checks.{holdsFrom, bytesPermitted, valuesPermitted, groupsPermitted, numberPermitted, valuePermitted, countsPermitted, rangePermitted, listsPermitted, naturePermitted, fieldsFail}
 use Rattle.base.proofs.Natures.{nature-float-range, nature-float-lists}
-use Rattle.base.proofs.Holding.{every-from}
+use Rattle.base.proofs.Holding.{holds-both, every-from}
 use Rattle.base.proofs.Flags.{and-both}
 use Rattle.shape.specs.declared.bounds.Ask.the-variants as A
-use Rattle.shape.specs.Fields.{spansZero, nanOrZero, mayMeetZero}
+use Rattle.shape.specs.Fields.{spansZero, nanOrZero, divisorSetsNullity}
 use Rattle.shape.specs.Asked.{wholeAsked, floatAsked, valueApart}
 
 -- ---- tests, number by number
@@ -34,16 +34,6 @@ holds-same : {p q : ℕ → Bool} → ((k : ℕ) → p k ≡ q k) → (n i : ℕ
 unfolding holdsFrom
 holds-same h zero i = refl
 holds-same h (suc n) i = ap₂ _&&_ (h i) (holds-same h n (i + 1))
-
-holds-both : (p q : ℕ → Bool) (n i : ℕ) → holdsFrom n i (λ k. p k && q k) ≡ (holdsFrom n i p && holdsFrom n i q)
-unfolding holdsFrom
-holds-both p q zero i = refl
-holds-both p q (suc n) i = go (p i) (q i) (holdsFrom n (i + 1) p) (holdsFrom n (i + 1) q) (holds-both p q n (i + 1))
-  where
-    go : (a b c d : Bool) {r : Bool} → r ≡ (c && d) → (a && b && r) ≡ (a && c && (b && d))
-    go true true c d e = e
-    go true false c d e = sym (and-false c)
-    go false b c d e = refl
 
 holds-always : (n i : ℕ) → holdsFrom n i (λ k. true) ≡ true
 unfolding holdsFrom
@@ -94,7 +84,7 @@ module _ (F : Form) (s : List ℕ) (g t n : ℕ) (p : ℕ → Bool) where
       let here = ltb (listNumber F s g i) n in
       let later = holdsFrom k (i + 1) (λ i. ltb (listNumber F s g i) n) in
       let below : listNumber F s g i < n = ltb-true (listNumber F s g i) n (and-both here later h .0) in
-      holds-both (λ j. elsewhere j i) (λ j. holdsFrom k (i + 1) (elsewhere j)) n 0
+      sym (holds-both (λ j. elsewhere j i) (λ j. holdsFrom k (i + 1) (elsewhere j)) n 0)
       ∙ ap₂ _&&_ (one-of n 0 (listNumber F s g i) (p (categoryAt F s g t i)) (omega arith) (omega arith)) (all-lists k (i + 1) (and-both here later h .1))
 
   pub every-list : holdsFrom t 0 (λ i. ltb (listNumber F s g i) n) ≡ true
@@ -108,11 +98,7 @@ none-of : (ls : List (List ℕ)) → every (λ l. not (any nanOrZero l)) ls ≡ 
 unfolding every
 none-of [] = refl
 none-of (l ∷ ls) =
-    ap₂ (λ (a b : Bool). cond a b false) (ap not (any-not nanOrZero l) ∙ twice (every (λ v. not (nanOrZero v)) l)) (none-of ls)
-  where
-    twice : (b : Bool) → not (not b) ≡ b
-    twice true = refl
-    twice false = refl
+    ap₂ (λ (a b : Bool). cond a b false) (ap not (any-not nanOrZero l) ∙ Bool·not-not (every (λ v. not (nanOrZero v)) l)) (none-of ls)
 
 -- ---- by the nature's byte
 
@@ -135,35 +121,35 @@ module _ (F : Form) (s : List ℕ) where
       let nature = and-both others (naturePermitted F s) (not-false (others && naturePermitted F s) h) .1 in
       let number =
       and-both (holdsFrom t 0 (numberPermitted F s)) (holdsFrom t 0 (valuePermitted F s))
-      (sym (holds-both (numberPermitted F s) (valuePermitted F s) t 0) ∙ sym (permitted-lists e) ∙ nature)
+      (holds-both (numberPermitted F s) (valuePermitted F s) t 0 ∙ sym (permitted-lists e) ∙ nature)
       .0 in
-      and-both (holdsFrom t 0 below) (holdsFrom t 0 rising) (sym (holds-both below rising t 0) ∙ number) .0
+      and-both (holdsFrom t 0 below) (holdsFrom t 0 rising) (holds-both below rising t 0 ∙ number) .0
 
-  pub lists-meet-zero : fieldsFail F s ≡ false → byteAt F natureAt s ≡ 5 → mayMeetZero (natureIn F s) ≡ not (holdsFrom (categoryCount F s) 0 (valueApart F s))
-  unfolding mayMeetZero lists
-  lists-meet-zero h e =
+  pub lists-set-nullity : fieldsFail F s ≡ false → byteAt F natureAt s ≡ 5 → divisorSetsNullity (natureIn F s) ≡ not (holdsFrom (categoryCount F s) 0 (valueApart F s))
+  unfolding divisorSetsNullity lists
+  lists-set-nullity h e =
       let t = categoryCount F s in
-      ap mayMeetZero (nature-float-lists F s e)
+      ap divisorSetsNullity (nature-float-lists F s e)
       ∙ any-not (λ l. any nanOrZero l) (lists F s asBits)
       ∙ ap not (none-of (lists F s asBits) ∙ every-list F s (groupCount F s) t (listCount F s) (λ v. not (nanOrZero v)) (numbers-below h e))
 
-  pub range-meets-zero : byteAt F natureAt s ≡ 2 → mayMeetZero (natureIn F s) ≡ not (everyEntry (wholeAsked A.Apart) (floatAsked A.Apart) (natureIn F s))
-  unfolding mayMeetZero everyEntry
-  range-meets-zero e =
+  pub range-sets-nullity : byteAt F natureAt s ≡ 2 → divisorSetsNullity (natureIn F s) ≡ not (everyEntry (wholeAsked A.Apart) (floatAsked A.Apart) (natureIn F s))
+  unfolding divisorSetsNullity everyEntry
+  range-sets-nullity e =
       let k = nature-float-range F s e in
-      ap mayMeetZero k
+      ap divisorSetsNullity k
       ∙ any-not (λ r. spansZero (r .lower) (r .upper)) (entries F s asFloat)
       ∙ sym (ap (λ (k : Nature). not (everyEntry (wholeAsked A.Apart) (floatAsked A.Apart) k)) k)
 
-  pub else-meets-zero : (byteAt F natureAt s ≡ 2 → ⊥) → (byteAt F natureAt s ≡ 5 → ⊥)
-      → mayMeetZero (natureIn F s) ≡ not (eqb (byteAt F natureAt s) 1 || eqb (byteAt F natureAt s) 3 || eqb (byteAt F natureAt s) 4)
-  unfolding natureIn mayMeetZero
-  else-meets-zero x y =
+  pub else-sets-nullity : (byteAt F natureAt s ≡ 2 → ⊥) → (byteAt F natureAt s ≡ 5 → ⊥)
+      → divisorSetsNullity (natureIn F s) ≡ not (eqb (byteAt F natureAt s) 1 || eqb (byteAt F natureAt s) 3 || eqb (byteAt F natureAt s) 4)
+  unfolding natureIn divisorSetsNullity
+  else-sets-nullity x y =
       let k = byteAt F natureAt s in
       rw (ne-eqb k 2 x, ne-eqb k 5 y) (go (eqb k 1) (eqb k 3) (eqb k 4))
     where
       go : (a b c : Bool)
-          → mayMeetZero (cond a (wholeRange (entries F s asWhole)) (cond b (wholeLists (lists F s asWhole)) (cond c (boolLists (lists F s asBits)) absent))) ≡ not (a || b || c)
+          → divisorSetsNullity (cond a (wholeRange (entries F s asWhole)) (cond b (wholeLists (lists F s asWhole)) (cond c (boolLists (lists F s asBits)) absent))) ≡ not (a || b || c)
       go true b c = refl
       go false true c = refl
       go false false true = refl

@@ -1,30 +1,17 @@
--- What one entry of a range, or one category, is asked.
-use mathlib.Core.Bool.{Bool, true, false, cond, not}
+-- What one entry of a range, one category, or one group of two sheets is asked.
+use mathlib.Core.Bool.{Bool, true, cond, not}
 use mathlib.Core.List.{List}
-use mathlib.Core.Option.{Option, none, some}
 use Prim.Native.Nat.{ℕ}
 use lib.IntN.{ℤ}
 use lib.Ieee.{Float}
-use Rattle.numbers.specs.Kind.{Kind, Span, whole, float}
+use Rattle.numbers.specs.Kind.{Span, whole, float}
 use Rattle.base.specs.Form.{Form, groupCount, listCount, categoryCount}
-use Rattle.base.specs.Decode.{asWhole, asFloat, spanAt, categoryAt}
+use Rattle.base.specs.Decode.{asWhole, asFloat, spanAt, categoryAt, groupAt}
 use Rattle.base.specs.Bounds.{isPresent, positive, nonNegative, suitsAsBase}
 use Rattle.shape.specs.declared.bounds.Ask.{Ask}
 use Rattle.shape.specs.declared.bounds.Ask.the-variants as A
+use Rattle.shape.specs.Shape.{sameGroup}
 use Rattle.shape.specs.Fields.{spansZero, nanOrZero}
-
-module _ {E : Type 0} (K : Kind E) (limit : E) where
-  -- an end that is present and above a limit, or below it
-  abbrev pub above : Option E → Bool
-  above none = false
-  above (some a) = K .lt limit a
-
-  abbrev pub under : Option E → Bool
-  under none = false
-  under (some a) = K .lt a limit
-
-abbrev pub span : {E : Type 0} → Option E → Option E → Span E
-span a c = record { lower = a; upper = c }
 
 -- an entry of a whole range, and of a float range
 abbrev pub wholeAsked : Ask → Span ℤ → Bool
@@ -54,3 +41,7 @@ module _ (F : Form) where
   -- float category i is neither NaN nor a zero
   abbrev pub valueApart : List ℕ → ℕ → Bool
   valueApart s i = not (nanOrZero (categoryAt F s (groupCount F s) (categoryCount F s) i))
+
+  -- group i of g, on either side
+  abbrev pub groupsMeet : ℕ → List ℕ → List ℕ → ℕ → Bool
+  groupsMeet g s t i = sameGroup (groupAt F s g i) (groupAt F t g i)

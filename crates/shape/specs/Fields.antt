@@ -26,13 +26,13 @@ abbrev pub nanOrZero : ℕ → Bool
 nanOrZero bits = Ieee.isNan (ofBits binary64 bits) || Ieee.eq (ofBits binary64 bits) zeroFloat
 
 -- 01: "Divide also sets nullity if right nature is absent, .."
-unfoldable pub mayMeetZero : Nature → Bool
-mayMeetZero absent = true
-mayMeetZero (wholeRange rs) = false
-mayMeetZero (floatRange rs) = any (λ r. spansZero (r .lower) (r .upper)) rs
-mayMeetZero (wholeLists ls) = false
-mayMeetZero (boolLists ls) = false
-mayMeetZero (floatLists ls) = any (λ l. any nanOrZero l) ls
+unfoldable pub divisorSetsNullity : Nature → Bool
+divisorSetsNullity absent = true
+divisorSetsNullity (wholeRange rs) = false
+divisorSetsNullity (floatRange rs) = any (λ r. spansZero (r .lower) (r .upper)) rs
+divisorSetsNullity (wholeLists ls) = false
+divisorSetsNullity (boolLists ls) = false
+divisorSetsNullity (floatLists ls) = any (λ l. any nanOrZero l) ls
 
 abbrev pub isDivide : Component → Bool
 isDivide C.Abs = false
@@ -46,7 +46,7 @@ isDivide C.Power = false
 isDivide C.Negative = false
 
 unfoldable pub addsNullity : Component → Nature → Bool
-addsNullity c k = isDivide c && mayMeetZero k
+addsNullity c k = isDivide c && divisorSetsNullity k
 
 -- 01: "2 to 5: nullity either; releasable and not empty both; c-stability, columns, dimensionality greater (absent least); aggregator absent; type,
 -- dataset, sample from left; .. ordered 1". `more` is what Divide adds to the nullity

@@ -5,16 +5,16 @@ use base::form::Form;
 ghost use mathlib.Core.Path.{_≡_};
 ghost use mathlib.Core.Bool.{false, not};
 ghost use Prim.Native.Nat.{_<_};
-ghost use Rattle.numbers.specs.Kind.{whole, float};
+ghost use Rattle.numbers.specs.Kind.{spanOf, whole, float};
 ghost use Rattle.base.specs.Form.{formOf};
 ghost use Rattle.base.specs.Sheet.{isWholeRange};
 ghost use Rattle.base.specs.Decode.{natureIn};
-ghost use Rattle.base.specs.Bounds.{isPresent, everyEntry, lowersPresent, uppersPresent, wholeLowersPresent, lowersPositive, lowersNonNegative, allSuitAsBase};
+ghost use Rattle.base.specs.Bounds.{isPresent, above, under, everyEntry, lowersPresent, uppersPresent, wholeLowersPresent, lowersPositive, lowersNonNegative, allSuitAsBase};
 ghost use Rattle.base.specs.Checks.{holdsFrom, sizesFail};
 ghost use Rattle.base.specs.Code.{wholeEnd, floatEnd};
 ghost use Rattle.base.specs.Sized.{RangeFits};
 ghost use Rattle.shape.specs.Fields.{spansZero};
-ghost use Rattle.shape.specs.Asked.{above, under, span, wholeAsked, floatAsked, entryAsked};
+ghost use Rattle.shape.specs.Asked.{wholeAsked, floatAsked, entryAsked};
 
 // The question, one for every entry.
 pub enum Ask {
@@ -88,7 +88,7 @@ fn float_under(b: Bound, limit: f64) -> bool
 // ---- one entry
 
 fn whole_asked(ask: Ask, lower: Bound, upper: Bound) -> bool
-    ensures { λ r. ⌜ r ≡ wholeAsked ask (span (wholeEnd lower) (wholeEnd upper)) ⌝ }
+    ensures { λ r. ⌜ r ≡ wholeAsked ask (spanOf (wholeEnd lower) (wholeEnd upper)) ⌝ }
 {
     match ask {
         Ask::LowerPresent => whole_present(lower),
@@ -121,7 +121,7 @@ fn apart(lower: Bound, upper: Bound) -> bool
 }
 
 fn float_asked(ask: Ask, lower: Bound, upper: Bound) -> bool
-    ensures { λ r. ⌜ r ≡ floatAsked ask (span (floatEnd lower) (floatEnd upper)) ⌝ }
+    ensures { λ r. ⌜ r ≡ floatAsked ask (spanOf (floatEnd lower) (floatEnd upper)) ⌝ }
 {
     match ask {
         Ask::LowerPresent => float_present(lower),

@@ -9,7 +9,7 @@ ghost use Rattle.base.specs.Decode.{groupsIn};
 ghost use Rattle.base.specs.Checks.{holdsFrom, sizesFail};
 ghost use Rattle.base.specs.Sized.{GroupsFit};
 ghost use Rattle.shape.specs.Shape.{sameGroups};
-ghost use Rattle.shape.specs.Parts.{groupsMeet};
+ghost use Rattle.shape.specs.Asked.{groupsMeet};
 
 // Group i of g: partition, kind and value.
 fn same_group(f: Form, left: &[u8], right: &[u8], g: usize, i: usize) -> bool

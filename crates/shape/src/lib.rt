@@ -1,4 +1,5 @@
-// Columns, rows and fields of two operands: `propagate_binary_shape`, and the fields that a component derives. Beside them the checks 6 to 16.
+// Columns, rows and fields of two operands: `propagate_binary_shape`, and the fields that a component derives. Beside them what the checks 6 to 16 ask of
+// groups and ends.
 use base::Head;
 use base::OptionI64;
 use base::OptionU64;
@@ -10,10 +11,9 @@ ghost use Rattle.base.specs.Code.{signedOf, headFields};
 ghost use Rattle.shape.specs.Shape.{sameOption, greaterOption, greaterPresent, rowSpreads, rowsAgree, rowsOf, columnsOf, columnsAbsent, columnsClash, widest, sameDataset, rowsClash};
 ghost use Rattle.shape.specs.Fields.{pairFields, copyFields};
 
-pub mod codes; // 6 to 16, in 01's order
+pub mod bounds; // what the ends of a range are asked
+pub mod groups;
 pub mod zero; // the nullity that Divide adds
-mod bounds; // what the ends of a range are asked
-mod groups;
 
 // ---- values that may be absent
 
@@ -78,7 +78,7 @@ pub fn columns_of(h: Head) -> u64
     }
 }
 
-fn columns_absent(h: Head) -> bool
+pub fn columns_absent(h: Head) -> bool
     ensures { λ r. ⌜ r ≡ columnsAbsent (headFields h) ⌝ }
 {
     let columns = h.columns;
@@ -89,7 +89,7 @@ fn columns_absent(h: Head) -> bool
 }
 
 // The counts differ and neither is 1.
-fn columns_clash(l: Head, r: Head) -> bool
+pub fn columns_clash(l: Head, r: Head) -> bool
     ensures { λ o. ⌜ o ≡ columnsClash (headFields l) (headFields r) ⌝ }
 {
     let x = columns_of(l);
@@ -108,7 +108,7 @@ pub fn widest(l: Head, r: Head) -> u64
 
 // ---- rows
 
-fn same_dataset(l: Head, r: Head) -> bool
+pub fn same_dataset(l: Head, r: Head) -> bool
     ensures { λ o. ⌜ o ≡ sameDataset (headFields l) (headFields r) ⌝ }
 {
     let x = l.dataset;
@@ -134,7 +134,7 @@ fn rows_agree(l: Head, r: Head) -> bool
 }
 
 // Unequal rows of one dataset do not clash: their count is absent.
-fn rows_clash(l: Head, r: Head) -> bool
+pub fn rows_clash(l: Head, r: Head) -> bool
     ensures { λ o. ⌜ o ≡ rowsClash (headFields l) (headFields r) ⌝ }
 {
     !rows_agree(l, r) & !same_dataset(l, r)

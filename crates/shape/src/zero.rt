@@ -1,4 +1,4 @@
-// Divide's nullity: whether the right sheet may meet 0.
+// Divide's nullity: whether the right sheet sets it.
 use crate::bounds::Ask;
 use crate::bounds::{self};
 use base::Component;
@@ -12,7 +12,7 @@ ghost use Rattle.base.specs.Form.{formOf};
 ghost use Rattle.base.specs.Decode.{natureIn};
 ghost use Rattle.base.specs.Checks.{holdsFrom, sizesFail, fieldsFail};
 ghost use Rattle.base.specs.Sized.{ListsFit};
-ghost use Rattle.shape.specs.Fields.{mayMeetZero, isDivide, addsNullity};
+ghost use Rattle.shape.specs.Fields.{divisorSetsNullity, isDivide, addsNullity};
 ghost use Rattle.shape.specs.Asked.{valueApart};
 
 fn nan_or_zero(x: f64) -> bool
@@ -37,9 +37,9 @@ fn values_apart(f: Form, s: &[u8], g: usize, n: usize, t: usize) -> bool
     true
 }
 
-pub fn may_meet_zero(f: Form, s: &[u8]) -> bool
+pub fn divisor_sets_nullity(f: Form, s: &[u8]) -> bool
     requires { ⌜ (sizesFail (formOf f) (now s) ≡ false) × (fieldsFail (formOf f) (now s) ≡ false) ⌝ }
-    ensures { λ r. ⌜ r ≡ mayMeetZero (natureIn (formOf f) (now (s .entry))) ⌝ }
+    ensures { λ r. ⌜ r ≡ divisorSetsNullity (natureIn (formOf f) (now (s .entry))) ⌝ }
 {
     let sizes = base::sizes_at(f, s);
     let g = sizes.groups;
@@ -77,7 +77,7 @@ pub fn adds_nullity(f: Form, c: Component, s: &[u8]) -> bool
     ensures { λ r. ⌜ r ≡ addsNullity c (natureIn (formOf f) (now (s .entry))) ⌝ }
 {
     if is_divide(c) {
-        return may_meet_zero(f, s);
+        return divisor_sets_nullity(f, s);
     }
     false
 }

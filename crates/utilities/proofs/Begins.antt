@@ -5,15 +5,15 @@ use mathlib.Core.List.{List, [], _∷_, _++_}
 use Prim.Native.Nat.{ℕ, _+_, _-_, _<_, _≤_}
 use native.Mathlib.Numerals.{add-one}
 use native.Mathlib.Omega.{arith}
-use lib.IntN.{ℤ, pos}
-use lib.ListN.{length, take, drop, getD, set, length-append, length-take}
+use lib.IntN.{ℤ}
+use lib.ListN.{length, take, drop, set, length-append, length-take}
 use lib.Seq.{take-suc-set, drop-set-lt, drop-drop, length-take-le}
 use Rattle.numbers.specs.Kind.{eqZ}
-use Rattle.utilities.specs.Lists.{has, noted, firsts}
+use Rattle.utilities.specs.Lists.{has, noted}
 use Rattle.utilities.specs.Noted.{Begins, Lacks, Notes}
 use Rattle.utilities.specs.declared.Noted.{Noted}
 use Rattle.utilities.specs.declared.Noted.the-variants.{At, Full}
-use Rattle.utilities.proofs.Firsts.{noted-known, noted-new, noted-keeps, firsts-next}
+use Rattle.utilities.proofs.Firsts.{noted-known, noted-new, noted-keeps}
 
 -- v is what the code reads of a local that holds x
 module _ (out : List ℤ) (n : ℕ) {v x : ℤ} (read : v ≡ x) where
@@ -63,14 +63,3 @@ module _ (n : ℕ) (x : ℤ) (before after : List ℤ) {r : Noted} where
 
   pub notes-full : r ≡ Full → Notes n x before after r → Lacks n x before after
   notes-full e h = subst (Notes n x before after) e h
-
--- the first i values of xs are done, and the next one is noted
-pub begins-next :
-    (xs out₀ out out′ : List ℤ) (n m i : ℕ) {v : ℤ}
-    → v ≡ getD xs i (pos 0)
-    → i < length xs
-    → Begins (firsts eqZ (take i xs)) n out₀ out
-    → Begins (noted eqZ (take n out) v) m out out′
-    → Begins (firsts eqZ (take (i + 1) xs)) m out₀ out′
-begins-next xs out₀ out out′ n m i read next b s =
-    subst (λ (l : List ℤ). Begins l m out₀ out′) (sym (firsts-next eqZ xs i (pos 0) next)) (begins-note b read s)

@@ -2,13 +2,12 @@
 use mathlib.Core.Bool.{Bool, _||_}
 use mathlib.Core.List.{List, [], _∷_}
 use Prim.Native.Nat.{ℕ}
-use lib.ListN.{length}
 use lib.Dec.{eqb}
 use Rattle.numbers.specs.Result.{Result, ok, andThen}
 
--- `broadcast` takes the list. 18: "A bound list has neither one entry nor one per output column"
-abbrev pub spreads {ℓ} : {X : Type ℓ} → ℕ → List X → Bool
-spreads columns xs = eqb (length xs) columns || eqb (length xs) 1
+-- `broadcast` takes a list of n. 18: "A bound list has neither one entry nor one per output column"
+abbrev pub spreads : ℕ → ℕ → Bool
+spreads columns n = eqb n columns || eqb n 1
 
 -- 01: "Columns go in order, 23 and 24 tested column by column"; for categories "pairing stops at the shorter"
 unfoldable pub eachPair : {X Y : Type 0} → (X → X → Result Y) → List X → List X → Result (List Y)

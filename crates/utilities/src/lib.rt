@@ -3,11 +3,11 @@ ghost use mathlib.Core.Path.{_≡_};
 ghost use Prim.Native.Nat.{_≤_, _<_};
 ghost use lib.ListN.{length, take, replicate};
 ghost use Rattle.numbers.specs.Kind.{eqZ};
-ghost use Rattle.utilities.specs.Lists.{has, noted, firsts};
-ghost use Rattle.utilities.specs.Noted.{Begins, Notes, Hinting, hintCount, hintAt, held};
+ghost use Rattle.utilities.specs.Lists.{has};
+ghost use Rattle.utilities.specs.Noted.{Notes, Hinting, hintCount, hintAt, held};
 
 // Whether x is among the first n values.
-pub fn has(s: &[i64], n: usize, x: i64) -> bool
+fn has(s: &[i64], n: usize, x: i64) -> bool
     requires { ⌜ n ≤ length (now s) ⌝ }
     ensures { λ r. ⌜ r ≡ has eqZ x (take n (now (s .entry))) ⌝ }
 {
@@ -19,19 +19,6 @@ pub fn has(s: &[i64], n: usize, x: i64) -> bool
         i += 1;
     }
     false
-}
-
-// A value goes behind the first n, unless it is among them. Returns how many values there are then.
-fn append_new(out: &mut [i64], n: usize, x: i64) -> usize
-    requires { ⌜ n < length (now out) ⌝ }
-    ensures { λ r. ⌜ Begins (noted eqZ (take n (now (out .entry))) x) r (now (out .entry)) (now (out .exit)) ⌝ }
-{
-    let known = has(out, n, x);
-    if known {
-        return n;
-    }
-    out[n] = x;
-    n + 1
 }
 
 pub enum Noted {
@@ -104,18 +91,4 @@ pub fn note_hinted(out: &mut [i64], n: usize, x: i64, hints: &mut [u8]) -> Noted
         return Noted::At(n + 1);
     }
     Noted::Full
-}
-
-// The first occurrences of xs, in order, go to the start of out. Returns how many there are.
-pub fn deduplicate(xs: &[i64], out: &mut [i64]) -> usize
-    requires { ⌜ length (now xs) ≤ length (now out) ⌝ }
-    ensures { λ r. ⌜ Begins (firsts eqZ (now (xs .entry))) r (now (out .entry)) (now (out .exit)) ⌝ }
-{
-    let mut n: usize = 0;
-    let mut i: usize = 0;
-    while i < xs.len() {
-        n = append_new(out, n, xs[i]);
-        i += 1;
-    }
-    n
 }

@@ -4,6 +4,6 @@ use lib.IntN.{ℤ}
 use Rattle.whole_ends.specs.declared.Pair.{Pair}
 use Rattle.whole_ends.specs.declared.Pair.the-variants.{Both, Missing}
 
-abbrev pub pairIn : Pair → Option (ℤ × ℤ)
-pairIn (Both a b) = some (a, b)
-pairIn Missing = none
+abbrev pub wholePair : Pair → Option (ℤ × ℤ)
+wholePair (Both a b) = some (a, b)
+wholePair Missing = none

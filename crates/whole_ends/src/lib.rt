@@ -12,7 +12,7 @@ ghost use Rattle.numbers.specs.Kind.{whole, fitting, lesser, greater, least, gr
 ghost use Rattle.base.specs.Code.{wholeEnd, ofWhole};
 ghost use Rattle.ends.specs.Ends.{present, fromTwo, fromOne, absLower, absUpper, absEnds, corners, mulCorners, mulEnds, divCorners, divUpper, divLower, divPresent, divBy, divEnds, endRule};
 ghost use Rattle.ends.specs.Code.{wholeSpan, endOf, endsOf, twoOf};
-ghost use Rattle.whole_ends.specs.Code.{pairIn};
+ghost use Rattle.whole_ends.specs.Code.{wholePair};
 
 // Two numbers of which both are present.
 enum Pair {
@@ -22,7 +22,7 @@ enum Pair {
 
 // Both ends of an entry. A bound of the other kind counts as absent.
 fn pair_of(x: Range) -> Pair
-    ensures { λ r. ⌜ pairIn r ≡ twoOf (wholeEnd (x .lower)) (wholeEnd (x .upper)) ⌝ }
+    ensures { λ r. ⌜ wholePair r ≡ twoOf (wholeEnd (x .lower)) (wholeEnd (x .upper)) ⌝ }
 {
     let lower = x.lower;
     let upper = x.upper;

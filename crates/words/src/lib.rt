@@ -1,17 +1,21 @@
-// What programs write about sheets: counts, the names of the components, and numbers with their sign.
+// What programs write about sheets: counts and the names of the components, with words behind them; and the magnitude of a number with a sign.
 ghost use mathlib.Core.Path.{_≡_};
 ghost use Rattle.words.specs.Signed.{magnitudeOf};
 use base::Component;
 use libc::STDOUT_FILENO;
 
-// A number, and words behind it.
-pub fn say(n: u64, text: &[u8]) {
+// No contract can say what is written; the words stay as they were.
+pub fn say(n: u64, text: &[u8])
+    ensures { λ _. ⌜ now (text .exit) ≡ now (text .entry) ⌝ }
+{
     io::print_decimal(STDOUT_FILENO, n);
     io::write_all(STDOUT_FILENO, text);
 }
 
-// A component's name; any other number is none.
-pub fn component(n: u32) {
+// A component's name, and words behind it; any other number is none.
+pub fn component(n: u32, text: &[u8])
+    ensures { λ _. ⌜ now (text .exit) ≡ now (text .entry) ⌝ }
+{
     match n {
         Component::ABS => io::write_all(STDOUT_FILENO, b"Abs"),
         Component::ADD => io::write_all(STDOUT_FILENO, b"Add"),
@@ -25,21 +29,12 @@ pub fn component(n: u32) {
         _ => io::write_all(STDOUT_FILENO, b"no component"),
     }
     ;
+    io::write_all(STDOUT_FILENO, text);
 }
 
 // The magnitude of the signed number whose two's complement is `v`.
-fn magnitude(v: u64) -> u64
+pub fn magnitude(v: u64) -> u64
     ensures { λ r. ⌜ r ≡ magnitudeOf v ⌝ }
 {
     if v < 0x8000_0000_0000_0000 { v } else { !v + 1 }
-}
-
-// The signed number whose two's complement is `v`, with its sign.
-pub fn signed(v: u64) {
-    if v < 0x8000_0000_0000_0000 {
-        io::write_all(STDOUT_FILENO, b"+");
-    } else {
-        io::write_all(STDOUT_FILENO, b"-");
-    }
-    io::print_decimal(STDOUT_FILENO, magnitude(v));
 }

@@ -9,14 +9,13 @@ use lib.IntN.{ℤ}
 use lib.ListN.{length, take}
 use Rattle.base.specs.Form.{Form}
 use Rattle.base.specs.Sheet.{Group, Nature, absent, wholeRange, floatRange, wholeLists, boolLists, floatLists, Fields, Sheet}
-use Rattle.base.specs.Encode.{rangeBytes, listsBytes, natureBytes, sizeBytes, groupBytes, encode}
-use Rattle.writer.specs.Written.{lowersOf, uppersOf, valuesOf, firstArray, secondArray, writtenOf, sheetFrom, partsIn}
-use Rattle.writer.specs.Room.{frontBytes}
+use Rattle.base.specs.Encode.{rangeBytes, listsBytes, natureBytes, groupBytes, frontBytes, encode}
+use Rattle.writer.specs.Written.{firstArray, secondArray, writtenOf, sheetFrom, partsIn}
 use Rattle.writer.specs.declared.Parts.{Parts}
 
 module _ (F : Form) where
   arrays : (k : Nature) → natureBytes F k ≡ firstArray F k ++ secondArray F k
-  unfolding natureBytes rangeBytes listsBytes lowersOf uppersOf valuesOf
+  unfolding natureBytes rangeBytes listsBytes
   arrays absent = refl
   arrays (wholeRange rs) = refl
   arrays (floatRange rs) = refl
@@ -25,14 +24,14 @@ module _ (F : Form) where
   arrays (floatLists ls) = refl
 
   pub sheet-written : (s : Sheet) → encode F s ≡ sheetFrom F (s .fields) (s .node) (s .groups) (writtenOf F (s .nature))
-  unfolding encode sizeBytes sheetFrom
+  unfolding encode sheetFrom
   sheet-written s = rw (arrays (s .nature)) (simp append-assoc)
 
 module _ (F : Form) (fields : Fields) (node : ℤ) where
   -- g and gs are the number of the groups and their bytes
   pub sheet-parts :
       (groups : List Group) (p : Parts) (first second : List ℕ) {g : ℕ} {gs : List ℕ} → length groups ≡ g → groupBytes groups ≡ gs
-      → frontBytes F g p fields node ++ gs ++ take (p .first) first ++ take (p .second) second
+      → frontBytes F g (p .nature) (p .entries) (p .values) fields node ++ gs ++ take (p .first) first ++ take (p .second) second
       ≡ sheetFrom F fields node groups (partsIn p first second)
   unfolding sheetFrom
-  sheet-parts groups p first second count same = rw (count, same) (simp append-assoc)
+  sheet-parts groups p first second count same = rw (count, same)

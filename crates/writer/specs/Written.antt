@@ -1,15 +1,13 @@
 -- A nature as it is written: its number, its sizes, and the bytes of its two arrays.
 use mathlib.Core.List.{List, [], _++_}
-use Prim.Native.Nat.{ℕ, _+_, _-_, _*_, _≤_}
+use Prim.Native.Nat.{ℕ, _+_, _*_, _≤_}
 use lib.IntN.{ℤ}
-use lib.ListN.{length, take, replicate}
-use Rattle.bytes.specs.Le.{leBytes}
+use lib.ListN.{length, take}
 use Rattle.numbers.specs.Result.{Result, ok, refused, andThen}
-use Rattle.numbers.specs.Kind.{Span}
-use Rattle.base.specs.Form.{Form, place, fieldsEnd}
+use Rattle.base.specs.Form.{Form}
 use Rattle.base.specs.Sheet.{Group, Nature, absent, wholeRange, floatRange, wholeLists, boolLists, floatLists, Fields}
 use Rattle.base.specs.Decode.{asBits}
-use Rattle.base.specs.Encode.{joined, endBytes, wholeBits, floatBits, numbersFrom, markBytes, valueBytes, groupBytes, natureNumber, entryCount, valueCount}
+use Rattle.base.specs.Encode.{wholeBits, floatBits, lowersOf, uppersOf, numbersFrom, valuesOf, frontBytes, groupBytes, natureNumber, entryCount, valueCount}
 use Rattle.writer.specs.declared.Parts.{Parts}
 use Rattle.writer.specs.declared.Derived.{Derived}
 use Rattle.writer.specs.declared.Derived.the-variants as D
@@ -22,17 +20,6 @@ pub record Written : Type 0 where
   -- lowers and uppers, or list numbers and values
   pub first : List ℕ
   pub second : List ℕ
-
--- 01: "n lowers and n uppers, each a mark and 64 bits"
-unfoldable pub lowersOf : {X : Type 0} → (X → ℕ) → List (Span X) → List ℕ
-lowersOf bits rs = joined (λ r. endBytes bits (r .lower)) rs
-
-unfoldable pub uppersOf : {X : Type 0} → (X → ℕ) → List (Span X) → List ℕ
-uppersOf bits rs = joined (λ r. endBytes bits (r .upper)) rs
-
--- 01: "t values (64 bits ..)"
-unfoldable pub valuesOf : {X : Type 0} → (X → ℕ) → List (List X) → List ℕ
-valuesOf bits ls = joined (λ l. joined (λ v. leBytes 8 (bits v)) l) ls
 
 module _ (F : Form) where
   abbrev pub firstArray : Nature → List ℕ
@@ -67,16 +54,7 @@ module _ (F : Form) where
   -- the bytes of a sheet with a nature in writing
   unfoldable pub sheetFrom : Fields → ℤ → List Group → Written → List ℕ
   sheetFrom fields node groups w =
-      leBytes (F .sizeWidth) (length groups)
-      ++ leBytes (F .sizeWidth) (w .entries)
-      ++ leBytes (F .sizeWidth) (w .values)
-      ++ markBytes (w .nature) fields
-      ++ valueBytes fields
-      ++ leBytes 8 (wholeBits node)
-      ++ replicate (F .arraysAt - place F fieldsEnd) 0
-      ++ groupBytes groups
-      ++ w .first
-      ++ w .second
+      frontBytes F (length groups) (w .nature) (w .entries) (w .values) fields node ++ groupBytes groups ++ w .first ++ w .second
 
 -- what a derived nature says, with the two buffers as they are
 abbrev pub partsIn : Parts → List ℕ → List ℕ → Written

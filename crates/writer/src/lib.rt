@@ -6,10 +6,10 @@ ghost use Rattle.bytes.specs.Le.{leBytes};
 ghost use Rattle.bytes.specs.Wrote.{Wrote};
 ghost use Rattle.base.specs.Form.{formOf, place, fieldsEnd, groupCount, entriesAt};
 ghost use Rattle.base.specs.Decode.{asBits, groupsIn};
-ghost use Rattle.base.specs.Encode.{wholeBits, flag, mark, bitsOf, markBytes, valueBytes};
+ghost use Rattle.base.specs.Encode.{wholeBits, flag, mark, bitsOf, markBytes, valueBytes, flagBytes, presenceBytes, sizeBytes, gapBytes, frontBytes};
 ghost use Rattle.base.specs.Code.{signedOf, bitsIn, headFields};
 ghost use Rattle.writer.specs.Written.{sheetFrom, partsIn};
-ghost use Rattle.writer.specs.Room.{Room, flagBytes, presenceBytes, countBytes, gapBytes, frontBytes};
+ghost use Rattle.writer.specs.Room.{Room};
 use base::Head;
 use base::OptionI64;
 use base::OptionU64;
@@ -125,7 +125,7 @@ fn put_sizes(
     values: usize,
 ) -> usize
     requires { ⌜ (at + 3 * formOf f .sizeWidth ≤ length (now buf)) × (groups ≤ formOf f .groupLimit) × (entries ≤ formOf f .listLimit) × (values ≤ formOf f .categoryLimit) ⌝ }
-    ensures { λ r. ⌜ Wrote (now (buf .entry)) at (3 * formOf f .sizeWidth) (countBytes (formOf f) groups entries values) (now (buf .exit)) r ⌝ }
+    ensures { λ r. ⌜ Wrote (now (buf .entry)) at (3 * formOf f .sizeWidth) (sizeBytes (formOf f) groups entries values) (now (buf .exit)) r ⌝ }
 {
     let end = put_size(f, buf, at, groups);
     let end = put_size(f, buf, end, entries);
@@ -207,7 +207,7 @@ fn put_gap(f: Form, buf: &mut [u8], at: usize) -> usize
 // All that stands before the arrays.
 fn put_front(f: Form, buf: &mut [u8], groups: usize, p: Parts, head: Head, node: i64) -> usize
     requires { ⌜ (formOf f .arraysAt ≤ length (now buf)) × (groups ≤ formOf f .groupLimit) × (p .entries ≤ formOf f .listLimit) × (p .values ≤ formOf f .categoryLimit) ⌝ }
-    ensures { λ r. ⌜ Wrote (now (buf .entry)) 0 (formOf f .arraysAt) (frontBytes (formOf f) groups p (headFields head) node) (now (buf .exit)) r ⌝ }
+    ensures { λ r. ⌜ Wrote (now (buf .entry)) 0 (formOf f .arraysAt) (frontBytes (formOf f) groups (p .nature) (p .entries) (p .values) (headFields head) node) (now (buf .exit)) r ⌝ }
 {
     let end = put_sizes(f, buf, 0, groups, p.entries, p.values);
     let end = put_marks(buf, end, p.nature, head);

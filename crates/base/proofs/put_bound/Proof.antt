@@ -7,7 +7,7 @@ use mir.Val.{ofZ}
 use mir.Facts.{toZ-ofZ}
 use borrow.Author.Needs.{needs}
 use Rattle.bytes.specs.Le.{leBytes}
-use Rattle.bytes.proofs.Appends.{and-then, same-bytes}
+use Rattle.bytes.proofs.Appends.{_then_, same-bytes}
 use Rattle.base.specs.Encode.{endBytes}
 use Rattle.base.specs.Code.{boundBytes}
 use Rattle.base.proofs.put_bound.Statement.{statement}
@@ -18,7 +18,7 @@ unfolding boundBytes endBytes
 returns c =
     let second = c .before .before in
     let first = second .before .before .before .before in
-    same-bytes (and-then (first .put-u8 .ensures) (second .put-u64 .ensures)) (ap boundBytes (sym (first .before .before .enum-told .given .1)))
+    same-bytes (first .put-u8 .ensures then second .put-u64 .ensures) (ap boundBytes (sym (first .before .before .enum-told .given .1)))
 
 returns-2 : tie.Need-returns-2
 unfolding boundBytes endBytes
@@ -27,7 +27,7 @@ returns-2 c =
     let first = second .before .before .before .before in
     let field = first .before .before .before .b .given in
     let back = toZ-ofZ {w = w64} {z = field .0 .0} (record { sfits = first .before .before .known-told .given .0 .1 }) in
-    same-bytes (and-then (first .put-u82 .ensures) (second .put-i64 .ensures))
+    same-bytes (first .put-u82 .ensures then second .put-i64 .ensures)
     (ap (λ (z : ℤ). 1 ∷ leBytes 8 (ofZ w64 z)) back ∙ ap boundBytes (sym (field .1)))
 
 returns-3 : tie.Need-returns-3
@@ -35,7 +35,7 @@ unfolding boundBytes endBytes
 returns-3 c =
     let second = c .before .before in
     let first = second .before .before .before .before in
-    same-bytes (and-then (first .put-u83 .ensures) (second .put-f64 .ensures)) (ap boundBytes (sym (first .before .before .before .b2 .given .1)))
+    same-bytes (first .put-u83 .ensures then second .put-f64 .ensures) (ap boundBytes (sym (first .before .before .before .b2 .given .1)))
 
 pub put-bound-spec : {M : Type 1} → statement M
 put-bound-spec =

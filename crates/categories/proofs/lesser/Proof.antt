@@ -1,7 +1,7 @@
 -- `categories::lesser` meets its contract. Assumes nothing.
 use mathlib.Core.Path.{sym}
 use native.Mathlib.Omega.{arith}
-use Rattle.categories.proofs.Columnwise.{lesser-left, lesser-right}
+use Rattle.category_lists.proofs.Columnwise.{lesser-left, lesser-right}
 use Rattle.categories.proofs.lesser.Statement.{statement}
 use Rattle.categories.proofs.lesser.Tie as tie
 

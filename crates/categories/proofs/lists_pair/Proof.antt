@@ -12,10 +12,10 @@ use Rattle.base.specs.Form.{formOf, listCount}
 use Rattle.base.specs.Decode.{asWhole, lists}
 use Rattle.base.proofs.Forms.{laid}
 use Rattle.writer.specs.Written.{inWriting}
-use Rattle.categories.specs.Categories.{limited, ruleOf}
-use Rattle.categories.specs.Columnwise.{spreadOf, lesserOf}
-use Rattle.categories.proofs.Operands.{listed-long, listed-within, lists-length}
-use Rattle.categories.proofs.Columnwise.{lesser-below, columns-within, combined-is}
+use Rattle.category_lists.specs.Categories.{limited, ruleOf}
+use Rattle.category_lists.specs.Columnwise.{spreadOf, lesserOf}
+use Rattle.category_lists.proofs.Operands.{listed-long, listed-within, lists-length}
+use Rattle.category_lists.proofs.Columnwise.{lesser-below, columns-within, combined-is}
 use Rattle.categories.proofs.lists_pair.Statement.{statement}
 use Rattle.categories.proofs.lists_pair.Tie as tie
 

@@ -3,7 +3,7 @@
 use mathlib.Core.Path.{_≡_, refl, sym, ap, ap₂, _∙_}
 use mathlib.Core.Bool.{false}
 use mathlib.Core.Logic.{⊎-elim}
-use Prim.Native.Nat.{ℕ, _+_, _-_, _≤_, _<_, _^_}
+use Prim.Native.Nat.{_+_, _-_, _≤_, _<_, _^_}
 use native.Mathlib.Omega.{arith}
 use lib.IntN.{pos}
 use lib.ListN.{length, take, getD}
@@ -19,12 +19,12 @@ use Rattle.utilities.proofs.Begins.{begins-room}
 use Rattle.utilities.proofs.Hints.{hinting-none}
 use Rattle.base.specs.Form.{formOf}
 use Rattle.base.proofs.Forms.{small}
-use Rattle.categories.specs.Categories.{product, ruleOf}
-use Rattle.categories.specs.Columnwise.{columnOf}
-use Rattle.categories.proofs.Operands.{begun-length, answered}
+use Rattle.category_lists.specs.Categories.{product, ruleOf}
+use Rattle.category_lists.specs.Columnwise.{columnOf}
+use Rattle.category_lists.proofs.Operands.{begun-length, answered}
 use Rattle.categories.proofs.Pairs.{product-is, row-start, all-end, inRow, inPairs, next-pair, bad-pair, next-row, Making, making-start, making-same, making-more, making-refused, making-done}
-use Rattle.categories.proofs.Columnwise.{columnIn, column-alike}
-use Rattle.categories.proofs.Gathering.{arrays-kept, Going, Ended, going-start, going-more, going-done, going-within, going-failed, ended-refused, ended-gathered}
+use Rattle.category_lists.proofs.Columnwise.{columnIn, column-alike}
+use Rattle.category_lists.proofs.Gathering.{arrays-kept, Going, Ended, going-start, going-more, going-done, going-within, going-failed, ended-refused, ended-gathered}
 use Rattle.categories.proofs.products_into.Statement.{statement}
 use Rattle.categories.proofs.products_into.Tie as tie
 

@@ -8,11 +8,12 @@ use lib.Dec.{T}
 use denote.Ref.{now}
 use borrow.Author.Needs.{needs}
 use Rattle.base.specs.Form.{narrow}
-use Rattle.plan.specs.Form.{leafCount}
-use Rattle.plan.specs.Walk as Walk
-use Rattle.plan.specs.Code.{Walkable, Begun, Reaches, walked}
-use Rattle.plan.specs.declared.Walked.{Walked}
-use Rattle.plan.proofs.FormLaws.{planned}
+use Rattle.plan_form.specs.Form.{leafCount}
+use Rattle.calls.specs.Walk as Walk
+use Rattle.plan_leaves.specs.Code.{Walkable, Begun, walked}
+use Rattle.plan.specs.Code.{Reaches}
+use Rattle.plan_leaves.specs.declared.Walked.{Walked}
+use Rattle.plan_form.proofs.FormLaws.{planned}
 use Rattle.gate.proofs.Replies.{begun-ended, reaches-ended, lent-ended, contained-reply}
 use Rattle.gate.proofs.propagate_properties.Statement.{statement}
 use Rattle.gate.proofs.propagate_properties.Tie as tie

@@ -7,10 +7,11 @@ use borrow.Author.Needs.{needs}
 use Rattle.base.specs.Form.{narrow}
 use Rattle.base.specs.Components.{componentOf}
 use Rattle.base.specs.declared.Numbered.the-variants as N
-use Rattle.transforms.specs.Single.{delivery, single}
-use Rattle.transforms.specs.Code.{stepIn}
-use Rattle.plan.proofs.Taken.{step-lent}
-use Rattle.gate.proofs.Replies.{reply-is, single-unlisted, single-is}
+use Rattle.calls.specs.Single.{delivery, single}
+use Rattle.deliveries.specs.Code.{stepIn}
+use Rattle.plan_step.proofs.Stepping.{step-lent}
+use Rattle.replies.proofs.Packed.{reply-is}
+use Rattle.gate.proofs.Replies.{single-unlisted, single-is}
 use Rattle.gate.proofs.propagate_property.Statement.{statement}
 use Rattle.gate.proofs.propagate_property.Tie as tie
 

@@ -12,13 +12,15 @@ use denote.Ref.{now}
 use borrow.Author.Needs.{needs}
 use borrow.Author.Tests.{not-true, not-false}
 use Rattle.base.specs.Form.{narrow}
-use Rattle.transforms.specs.Single.{outcome}
-use Rattle.transforms.specs.Code.{holdsLists}
-use Rattle.plan.specs.Form.{nodeCount, leafCount, leftOf}
-use Rattle.plan.specs.Walk.{walk, sheetIn}
-use Rattle.plan.specs.Code.{Walkable, Steppable, Rooms, Large, nodesFrom}
-use Rattle.plan.proofs.FormLaws.{planned}
-use Rattle.plan.proofs.Taken.{steppable, walk-more, walk-refused, walk-none}
+use Rattle.calls.specs.Single.{outcome}
+use Rattle.lending.specs.Code.{holdsLists}
+use Rattle.plan_form.specs.Form.{nodeCount, leafCount, leftOf}
+use Rattle.calls.specs.Walk.{walk, sheetIn}
+use Rattle.plan_leaves.specs.Code.{nodesFrom, Steppable}
+use Rattle.plan_step.specs.Code.{Rooms, Large}
+use Rattle.plan_form.proofs.FormLaws.{planned}
+use Rattle.plan.proofs.Taken.{steppable, walk-more, walk-refused}
+use Rattle.plan_leaves.proofs.Leaves.{walk-none}
 use Rattle.plan.proofs.take_steps.Statement.{statement}
 use Rattle.plan.proofs.take_steps.Tie as tie
 

@@ -12,7 +12,7 @@ use Rattle.base.specs.Components.{numberOf}
 use Rattle.base.specs.declared.Component.{Component}
 use Rattle.base.specs.declared.Component.the-variants as C
 use Rattle.ends.specs.Ends.{endRule, unknown}
-use Rattle.ranges.specs.Ranges.{wholeRule}
+use Rattle.ends.specs.Ranges.{wholeRule}
 use Rattle.ranges.specs.Chained.{columnEnds}
 use Rattle.ranges.proofs.column.Statement.{statement}
 use Rattle.ranges.proofs.column.Tie as tie

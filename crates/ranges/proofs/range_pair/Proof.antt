@@ -7,20 +7,15 @@ use borrow.Author.Needs.{needs}
 use borrow.Author.Tests.{not-false}
 use Rattle.numbers.specs.Result.{checked}
 use Rattle.base.specs.Form.{formOf}
-use Rattle.base.proofs.Passed.{passed, sized, long-enough, range-fits}
-use Rattle.ranges.specs.Chained.{spreadsOver}
+use Rattle.utilities.specs.Columns.{spreads}
+use Rattle.base.proofs.Passed.{sized, range-fits, passing}
 use Rattle.ranges.proofs.Sheets.{derived-is}
 use Rattle.ranges.proofs.range_pair.Statement.{statement}
 use Rattle.ranges.proofs.range_pair.Tie as tie
 
 -- what `spreads` says of the count that was read, it says of the sheet's; t is the code's test
-counted : (columns : ℕ) {n m : ℕ} {r t : Bool} → n ≡ m → r ≡ spreadsOver columns n → not r ≡ t → not (spreadsOver columns m) ≡ t
-counted columns e s h = ap (λ (k : ℕ). not (spreadsOver columns k)) (sym e) ∙ ap not (sym s) ∙ h
-
-sizes-at-requires : tie.Need-sizes-at-requires
-sizes-at-requires c κs =
-    let b = c .before .before .before .before in
-    long-enough (passed (formOf (b .args .f)) (now (b .args .left)) (b .pre .0))
+counted : (columns : ℕ) {n m : ℕ} {r t : Bool} → n ≡ m → r ≡ spreads columns n → not r ≡ t → not (spreads columns m) ≡ t
+counted columns e s h = ap (λ (k : ℕ). not (spreads columns k)) (sym e) ∙ ap not (sym s) ∙ h
 
 returns : tie.Need-returns
 unfolding checked
@@ -29,11 +24,6 @@ returns c =
     let a = z .before .before .before .before .before .args in
     let uneven = counted (a .columns) (z .sizes-at .ensures .lists) (c .before .spreads .ensures) (c .if1 .taken) in
     (rw (derived-is (formOf (a .f)) (a .float) (a .c) (a .data-type) (a .columns) (now (a .left)) (now (a .right)), uneven), tt)
-
-sizes-at-requires-2 : tie.Need-sizes-at-requires-2
-sizes-at-requires-2 c κs =
-    let b = c .before .before .before .before .before .before .before in
-    long-enough (passed (formOf (b .args .f)) (now (b .args .right)) (b .pre .2))
 
 returns-2 : tie.Need-returns-2
 unfolding checked
@@ -58,9 +48,9 @@ put-columns-requires c κs =
     let m = y .sizes-at2 .result .lists in
     let columns = b .args .columns in (
       range-fits (sized (formOf (b .args .f)) (now (b .args .left)) (p .0) (z .sizes-at .ensures)) (p .1),
-      not-false (spreadsOver columns n) (counted columns refl (x .before .spreads .ensures) (x .if1 .left)),
+      not-false (spreads columns n) (counted columns refl (x .before .spreads .ensures) (x .if1 .left)),
       range-fits (sized (formOf (b .args .f)) (now (b .args .right)) (p .2) (y .sizes-at2 .ensures)) (p .3),
-      not-false (spreadsOver columns m) (counted columns refl (w .before .spreads2 .ensures) (w .if2 .left)),
+      not-false (spreads columns m) (counted columns refl (w .before .spreads2 .ensures) (w .if2 .left)),
       p .4,
       p .5,
       p .6,
@@ -85,10 +75,10 @@ pub range-pair-spec : {M : Type 1} → statement M
 range-pair-spec =
     tie.close
     (tie.spec
-    sizes-at-requires
+    (λ c κs. search passing)
     (λ c κs. search needs)
     returns
-    sizes-at-requires-2
+    (λ c κs. search passing)
     (λ c κs. search needs)
     returns-2
     put-columns-requires

@@ -4,8 +4,8 @@ use denote.Ref.{now}
 use borrow.Author.Needs.{needs}
 use Rattle.base.specs.Form.{formOf}
 use Rattle.base.specs.Components.{familyOf, isUnary}
-use Rattle.transforms.proofs.Lending.{lent-alone}
-use Rattle.transforms.proofs.Delivered.{was-read, right-was-read, step-left-refused, step-right-refused, step-alone, step-paired, step-copied}
+use Rattle.lending.proofs.Lending.{lent-alone}
+use Rattle.transforms.proofs.Stepped.{was-read, right-was-read, step-left-refused, step-right-refused, step-alone, step-paired, step-copied}
 use Rattle.transforms.proofs.step.Statement.{statement}
 use Rattle.transforms.proofs.step.Tie as tie
 

@@ -3,7 +3,7 @@ use mir.Facts.{toZ-ofZ}
 use mir.Syntax.{w64}
 use native.Mathlib.Omega.{arith}
 use borrow.Author.Needs.{needs}
-use Rattle.bytes.proofs.Appends.{and-then, same-bytes}
+use Rattle.bytes.proofs.Appends.{_then_, same-bytes}
 use Rattle.base.proofs.Forms.{laid}
 use Rattle.writer.proofs.Copies.{same-size}
 use Rattle.writer.proofs.put_front.Statement.{statement}
@@ -19,10 +19,7 @@ returns c =
     let start = sizes .before .before .before in
     let l = laid (start .args .f) in
     let back = toZ-ofZ {w = w64} {z = start .args .node} (start .fits .node) in
-    let put =
-    and-then
-    (and-then (and-then (and-then (sizes .put-sizes .ensures) (marks .put-marks .ensures)) (values .put-values .ensures)) (last .put-i64 .ensures))
-    (gap .put-gap .ensures) in
+    let put = sizes .put-sizes .ensures then marks .put-marks .ensures then values .put-values .ensures then last .put-i64 .ensures then gap .put-gap .ensures in
     same-bytes (same-size put (omega arith)) (rw back)
 
 pub put-front-spec : {M : Type 1} → statement M

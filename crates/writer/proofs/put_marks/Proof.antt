@@ -1,6 +1,6 @@
 -- `writer::put_marks` meets its contract: the appends of its parts; zeros are the bytes of a zero. Assumes nothing.
 use borrow.Author.Needs.{needs}
-use Rattle.bytes.proofs.Appends.{and-then}
+use Rattle.bytes.proofs.Appends.{_then_}
 use Rattle.bytes.specs.Le.{leBytes}
 use Rattle.base.specs.Encode.{markBytes}
 use Rattle.writer.proofs.put_marks.Statement.{statement}
@@ -16,10 +16,8 @@ returns c =
     let third = fourth .before .before .before .before in
     let second = third .before .before .before .before in
     let first = second .before .before .before .before in
-    let zeros = and-then (and-then (fifth .put-u8 .ensures) (sixth .put-u16 .ensures)) (seventh .put-u323 .ensures) in
-    and-then
-    (and-then (and-then (and-then (first .put-flags .ensures) (second .put-u32 .ensures)) (third .put-u322 .ensures)) (fourth .put-presence .ensures))
-    zeros
+    let zeros = fifth .put-u8 .ensures then sixth .put-u16 .ensures then seventh .put-u323 .ensures in
+    first .put-flags .ensures then second .put-u32 .ensures then third .put-u322 .ensures then fourth .put-presence .ensures then zeros
 
 pub put-marks-spec : {M : Type 1} → statement M
 put-marks-spec =

@@ -4,21 +4,16 @@ use mir.Syntax.{w64}
 use mir.Facts.{toZ-ofZ}
 use denote.Ref.{now}
 use borrow.Author.Needs.{needs}
-use Rattle.bytes.proofs.Appends.{and-then, same-bytes}
+use Rattle.bytes.proofs.Appends.{_then_, same-bytes}
 use Rattle.base.specs.Code.{headFields}
 use Rattle.base.specs.Decode.{groupsIn}
 use Rattle.base.specs.Form.{formOf}
-use Rattle.base.proofs.Passed.{passed, long-enough, groups-fit}
+use Rattle.base.proofs.Passed.{passed, groups-fit, passing}
 use Rattle.base.proofs.Groups.{groups-length, groups-copied}
 use Rattle.writer.proofs.Copies.{same-size}
 use Rattle.writer.proofs.Sheets.{sheet-parts}
 use Rattle.writer.proofs.put_sheet.Statement.{statement}
 use Rattle.writer.proofs.put_sheet.Tie as tie
-
-sizes-at-requires : tie.Need-sizes-at-requires
-sizes-at-requires c κs =
-    let start = c .before .before .before .before in
-    long-enough (passed (formOf (start .args .f)) (now (start .args .source)) (start .pre .sized))
 
 put-front-requires : tie.Need-put-front-requires
 put-front-requires c κs =
@@ -48,8 +43,7 @@ returns c =
     let arrays = places .arrays-at .ensures .0 in
     let copied = groups-copied F source (λ i. read .before .shared-slice-known3 .given i .fits) (groups-fit (passed F source (start .pre .sized)) .room) in
     let back = toZ-ofZ {w = w64} {z = a .node} (start .fits .node) in
-    let put =
-    and-then (and-then (and-then (front .put-front .ensures) (area .put-bytes .ensures)) (first .put-bytes2 .ensures)) (last .put-bytes3 .ensures) in
+    let put = front .put-front .ensures then area .put-bytes .ensures then first .put-bytes2 .ensures then last .put-bytes3 .ensures in
     same-bytes (same-size put (omega arith))
     (rw (back, count, arrays)
     (sheet-parts F (headFields (a .head)) (a .node) (groupsIn F source) (a .p) (now (a .first)) (now (a .second)) (groups-length F source) copied))
@@ -58,7 +52,7 @@ pub put-sheet-spec : {M : Type 1} → statement M
 put-sheet-spec =
     tie.close
     (tie.spec
-    sizes-at-requires
+    (λ c κs. search passing)
     (λ c κs. search needs)
     put-front-requires
     (λ c. search needs)

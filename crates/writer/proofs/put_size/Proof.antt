@@ -3,30 +3,6 @@ use borrow.Author.Needs.{needs}
 use Rattle.writer.proofs.put_size.Statement.{statement}
 use Rattle.writer.proofs.put_size.Tie as tie
 
-cast-put-u16 : tie.Need-cast-put-u16
-cast-put-u16 c =
-    let e = c .before .enum-told .given .1 in
-    let p = rw e at (c .before .before .before .before .pre) in
-    search needs
-
-put-u16-requires : tie.Need-put-u16-requires
-put-u16-requires c κs =
-    let e = c .before .enum-told .given .1 in
-    let p = rw e at (c .before .before .before .before .pre) in
-    search needs
-
-cast-put-u32 : tie.Need-cast-put-u32
-cast-put-u32 c =
-    let e = c .before .enum-told2 .given .1 in
-    let p = rw e at (c .before .before .before .before .pre) in
-    search needs
-
-put-u32-requires : tie.Need-put-u32-requires
-put-u32-requires c κs =
-    let e = c .before .enum-told2 .given .1 in
-    let p = rw e at (c .before .before .before .before .pre) in
-    search needs
-
 returns : tie.Need-returns
 returns c =
     let b = c .before .before in
@@ -42,11 +18,11 @@ put-size-spec =
     tie.close
     (tie.spec
     (λ c. search needs)
-    cast-put-u16
-    put-u16-requires
+    (λ c. let p = rw (c .before .enum-told .given .1) at (c .before .before .before .before .pre) in search needs)
+    (λ c κs. let p = rw (c .before .enum-told .given .1) at (c .before .before .before .before .pre) in search needs)
     (λ c. search needs)
-    cast-put-u32
-    put-u32-requires
+    (λ c. let p = rw (c .before .enum-told2 .given .1) at (c .before .before .before .before .pre) in search needs)
+    (λ c κs. let p = rw (c .before .enum-told2 .given .1) at (c .before .before .before .before .pre) in search needs)
     (λ c. search needs)
     returns
     (λ c. search needs)

@@ -1,7 +1,7 @@
 -- `writer::put_sizes` meets its contract: three appends of one width; a count within its limit fits that width. Assumes nothing.
 use native.Mathlib.Omega.{arith}
 use borrow.Author.Needs.{needs}
-use Rattle.bytes.proofs.Appends.{and-then}
+use Rattle.bytes.proofs.Appends.{_then_}
 use Rattle.base.proofs.Forms.{laid}
 use Rattle.writer.proofs.Copies.{same-size}
 use Rattle.writer.proofs.put_sizes.Statement.{statement}
@@ -12,7 +12,7 @@ returns c =
     let third = c .before .before in
     let second = third .before .before .before .before in
     let first = second .before .before .before .before in
-    same-size (and-then (and-then (first .put-size .ensures) (second .put-size2 .ensures)) (third .put-size3 .ensures)) (omega arith)
+    same-size (first .put-size .ensures then second .put-size2 .ensures then third .put-size3 .ensures) (omega arith)
 
 pub put-sizes-spec : {M : Type 1} → statement M
 put-sizes-spec =

@@ -2,17 +2,11 @@
 use mathlib.Core.Path.{sym, ap, _∙_}
 use denote.Ref.{now}
 use Rattle.base.specs.Form.{formOf, isRangeNature}
-use Rattle.base.proofs.Passed.{passed, sized, long-enough, range-fits}
+use Rattle.base.proofs.Passed.{sized, range-fits, passing}
 use Rattle.base.proofs.Natures.{nature-whole-range, nature-float-range}
 use Rattle.shape.proofs.Asks.{every-whole, every-float, no-range-asked}
 use Rattle.shape.proofs.bounds.every_entry.Statement.{statement}
 use Rattle.shape.proofs.bounds.every_entry.Tie as tie
-
-sizes-at-requires : tie.Need-sizes-at-requires
-sizes-at-requires c κs = long-enough (passed (formOf (c .before .args .f)) (now (c .before .args .s)) (c .before .pre))
-
-nature-of-requires : tie.Need-nature-of-requires
-nature-of-requires c κs = long-enough (passed (formOf (c .before .before .args .f)) (now (c .before .before .args .s)) (c .before .before .pre))
 
 entries-asked-requires : tie.Need-entries-asked-requires
 entries-asked-requires c κs =
@@ -50,8 +44,8 @@ pub every-entry-spec : {M : Type 1} → statement M
 every-entry-spec =
     tie.close
     (tie.spec
-    sizes-at-requires
-    nature-of-requires
+    (λ c κs. search passing)
+    (λ c κs. search passing)
     entries-asked-requires
     returns
     entries-asked-requires-2

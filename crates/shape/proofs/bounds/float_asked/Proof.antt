@@ -1,8 +1,6 @@
 -- `shape::bounds::float_asked` meets its contract. Assumes nothing.
 use lib.Ieee.{ofBits}
 use borrow.Author.Needs.{needs}
-use Rattle.numbers.specs.Kind.{float}
-use Rattle.shape.proofs.Asks.{positive-is, non-negative-is, suits-is}
 use Rattle.shape.proofs.bounds.float_asked.Statement.{statement}
 use Rattle.shape.proofs.bounds.float_asked.Tie as tie
 
@@ -28,7 +26,7 @@ float-asked-spec =
     (λ c κs. search needs)
     (λ c. search needs)
     (λ c. search needs)
-    (λ c. rw (c .before .enum-told3 .given .1, positive-is float) (c .float-above .ensures))
-    (λ c. rw (c .before .before .enum-told4 .given .1, non-negative-is float, c .before .float-present3 .ensures, c .float-under .ensures))
-    (λ c. rw (c .before .before .before .enum-told5 .given .1, suits-is float, c .before .before .float-above2 .ensures, c .before .float-under2 .ensures, c .float-above3 .ensures))
+    (λ c. rw (c .before .enum-told3 .given .1) (c .float-above .ensures))
+    (λ c. rw (c .before .before .enum-told4 .given .1, c .before .float-present3 .ensures, c .float-under .ensures))
+    (λ c. rw (c .before .before .before .enum-told5 .given .1, c .before .before .float-above2 .ensures, c .before .float-under2 .ensures, c .float-above3 .ensures))
     (λ c. rw (c .before .enum-told6 .given .1) (c .apart .ensures)))

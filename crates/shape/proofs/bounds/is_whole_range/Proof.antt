@@ -2,16 +2,13 @@
 use mathlib.Core.Path.{sym}
 use denote.Ref.{now}
 use Rattle.base.specs.Form.{formOf}
-use Rattle.base.proofs.Passed.{passed, long-enough}
+use Rattle.base.proofs.Passed.{passing}
 use Rattle.shape.proofs.Asks.{whole-range-is}
 use Rattle.shape.proofs.bounds.is_whole_range.Statement.{statement}
 use Rattle.shape.proofs.bounds.is_whole_range.Tie as tie
-
-nature-of-requires : tie.Need-nature-of-requires
-nature-of-requires c κs = long-enough (passed (formOf (c .before .args .f)) (now (c .before .args .s)) (c .before .pre))
 
 returns : tie.Need-returns
 returns c = rw (c .nature-of .ensures) (sym (whole-range-is (formOf (c .before .before .args .f)) (now (c .before .before .args .s))))
 
 pub is-whole-range-spec : {M : Type 1} → statement M
-is-whole-range-spec = tie.close (tie.spec nature-of-requires returns)
+is-whole-range-spec = tie.close (tie.spec (λ c κs. search passing) returns)

@@ -1,7 +1,5 @@
 -- `shape::bounds::whole_asked` meets its contract. Assumes nothing.
 use borrow.Author.Needs.{needs}
-use Rattle.numbers.specs.Kind.{whole}
-use Rattle.shape.proofs.Asks.{positive-is, non-negative-is, suits-is}
 use Rattle.shape.proofs.bounds.whole_asked.Statement.{statement}
 use Rattle.shape.proofs.bounds.whole_asked.Tie as tie
 
@@ -25,7 +23,7 @@ whole-asked-spec =
     (λ c. search needs)
     (λ c. search needs)
     (λ c. search needs)
-    (λ c. rw (c .before .enum-told3 .given .1, positive-is whole) (c .whole-above .ensures))
-    (λ c. rw (c .before .before .enum-told4 .given .1, non-negative-is whole, c .before .whole-present3 .ensures, c .whole-under .ensures))
-    (λ c. rw (c .before .before .before .enum-told5 .given .1, suits-is whole, c .before .before .whole-above2 .ensures, c .before .whole-under2 .ensures, c .whole-above3 .ensures))
+    (λ c. rw (c .before .enum-told3 .given .1) (c .whole-above .ensures))
+    (λ c. rw (c .before .before .enum-told4 .given .1, c .before .whole-present3 .ensures, c .whole-under .ensures))
+    (λ c. rw (c .before .before .before .enum-told5 .given .1, c .before .before .whole-above2 .ensures, c .before .whole-under2 .ensures, c .whole-above3 .ensures))
     (λ c. search needs))

@@ -2,16 +2,10 @@
 use mathlib.Core.Path.{sym, _∙_}
 use denote.Ref.{now}
 use Rattle.base.specs.Form.{formOf}
-use Rattle.base.proofs.Passed.{passed, sized, long-enough, groups-fit}
+use Rattle.base.proofs.Passed.{sized, groups-fit, passing}
 use Rattle.shape.proofs.Grouped.{groups-same, groups-unequal}
 use Rattle.shape.proofs.groups.same_groups.Statement.{statement}
 use Rattle.shape.proofs.groups.same_groups.Tie as tie
-
-sizes-at-requires : tie.Need-sizes-at-requires
-sizes-at-requires c κs = long-enough (passed (formOf (c .before .before .args .f)) (now (c .before .before .args .left)) (c .before .before .pre .0))
-
-sizes-at-requires-2 : tie.Need-sizes-at-requires-2
-sizes-at-requires-2 c κs = long-enough (passed (formOf (c .before .before .before .args .f)) (now (c .before .before .before .args .right)) (c .before .before .before .pre .1))
 
 returns : tie.Need-returns
 returns c =
@@ -32,4 +26,4 @@ returns-2 c =
     ∙ sym (groups-same (formOf (a .f)) (now (a .left)) (now (a .right)) (c .before .before .before .sizes-at .ensures .groups) (c .before .before .sizes-at2 .ensures .groups) (c .before .if1 .left))
 
 pub same-groups-spec : {M : Type 1} → statement M
-same-groups-spec = tie.close (tie.spec sizes-at-requires sizes-at-requires-2 returns all-same-requires returns-2)
+same-groups-spec = tie.close (tie.spec (λ c κs. search passing) (λ c κs. search passing) returns all-same-requires returns-2)

@@ -6,7 +6,7 @@ use Rattle.shape.proofs.zero.adds_nullity.Tie as tie
 
 returns : tie.Need-returns
 unfolding addsNullity
-returns c = rw (← c .before .before .is-divide .ensures, c .before .if1 .taken) (c .may-meet-zero .ensures)
+returns c = rw (← c .before .before .is-divide .ensures, c .before .if1 .taken) (c .divisor-sets-nullity .ensures)
 
 returns-2 : tie.Need-returns-2
 unfolding addsNullity

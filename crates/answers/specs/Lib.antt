@@ -1,0 +1,5 @@
+pub mod Texts
+pub mod Answers
+pub mod CallLine
+pub mod PlanLine
+pub mod ListLine

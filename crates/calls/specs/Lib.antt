@@ -1,0 +1,4 @@
+pub mod Natures
+pub mod Derive
+pub mod Single
+pub mod Walk

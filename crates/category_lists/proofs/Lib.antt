@@ -1,0 +1,5 @@
+-- What the proofs of several functions cite.
+pub mod Operands
+pub mod Columnwise
+pub mod Gathering
+pub mod Ruled

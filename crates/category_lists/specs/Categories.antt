@@ -1,0 +1,84 @@
+-- 01, "Categories": lists mapped or combined by a rule.
+use mathlib.Core.Bool.{Bool, cond}
+use mathlib.Core.List.{List, [], _∷_, _++_}
+use mathlib.Core.Option.{Option, none, some}
+use Prim.Native.Nat.{ℕ, _-_, _%_, suc}
+use lib.IntN.{ℤ, pos, negsuc, natAbs, pow}
+use lib.Dec.{eqb, ltb}
+use Rattle.numbers.specs.Result.{Result, ok, refused, andThen}
+use Rattle.numbers.specs.Checked.{inRange, checkedOf}
+use Rattle.numbers.specs.Kind.{whole, fitting}
+use Rattle.utilities.specs.Lists.{firsts, standardized}
+use Rattle.base.specs.Form.{intType}
+use Rattle.base.specs.Sheet.{Nature, wholeLists}
+use Rattle.base.specs.Encode.{total}
+use Rattle.base.specs.declared.Component.{Component}
+use Rattle.base.specs.declared.Component.the-variants as C
+use Rattle.utilities.specs.Columns.{each, eachPair}
+
+-- the magnitude, which -2 ^ 63 does not have in 64 signed bits
+abbrev pub absWhole : ℤ → Result ℤ
+absWhole a = fitting (checkedOf (pos (natAbs a)))
+
+-- the remainder that is never negative and is below the divisor's magnitude
+abbrev pub remainder : ℤ → ℤ → ℤ
+remainder (pos n) b = pos (n % natAbs b)
+remainder (negsuc n) b = pos (natAbs b - suc (n % natAbs b))
+
+abbrev pub modWhole : ℤ → ℤ → Result ℤ
+modWhole a b = cond (eqb (natAbs b) 0) (refused 24) (ok (remainder a b))
+
+-- 25: "A category under Power overflows"
+abbrev pub powerWhole : ℤ → ℤ → Result ℤ
+powerWhole a (pos n) = cond (inRange (pow a n)) (ok (pow a n)) (refused 25)
+powerWhole a (negsuc n) = refused 25
+
+-- 01: "Whole rules exist for 1 to 5, 9, 6 and Int Power. Float Power has none". `none` is 22; Abs and Negative read the left alone.
+-- (For 6 to 8 this is never reached: 15 refuses categories on the right of Modulo, Log and Int Power.)
+unfoldable pub categoryRule : Component → ℕ → Option (ℤ → ℤ → Result ℤ)
+categoryRule C.Abs type = some (λ a b. absWhole a)
+categoryRule C.Add type = some (whole .add)
+categoryRule C.Subtract type = some (whole .sub)
+categoryRule C.Multiply type = some (whole .mul)
+categoryRule C.Divide type = some (whole .div)
+categoryRule C.Modulo type = cond (eqb type intType) (some modWhole) none
+categoryRule C.Log type = none
+categoryRule C.Power type = cond (eqb type intType) (some powerWhole) none
+categoryRule C.Negative type = some (λ a b. whole .neg a)
+
+-- 22: "The component has no rule for this category kind"
+abbrev pub ruled : {X : Type 0} → Option (ℤ → ℤ → Result ℤ) → ((ℤ → ℤ → Result ℤ) → Result X) → Result X
+ruled none rest = refused 22
+ruled (some rule) rest = rest rule
+
+-- the rule itself. Of 1 to 5 and 9, which alone have code, it is that of every type
+abbrev pub ruleOf : Component → ℤ → ℤ → Result ℤ
+ruleOf c a b = ruled (categoryRule c intType) (λ rule. rule a b)
+
+-- ---- lists of any elements, by their rule and their equality: of whole numbers, by `categoryRule` and `eqZ`
+
+-- 01: "Pairs run left outer, right inner"; "The first pair that fails ends the whole product"
+unfoldable pub pairs : {X : Type 0} → (X → X → Result X) → List X → List X → Result (List X)
+pairs rule [] bs = ok []
+pairs rule (a ∷ us) bs = andThen (each (rule a) bs) (λ cs. andThen (pairs rule us bs) (λ ds. ok (cs ++ ds)))
+
+module _ {X : Type 0} (same : X → X → Bool) (rule : X → X → Result X) where
+  -- 01: "first occurrences stay"
+  unfoldable pub product : List X → List X → Result (List X)
+  product us bs = andThen (pairs rule us bs) (λ cs. ok (firsts same cs))
+
+  -- two operands' lists, over the output columns
+  unfoldable pub combined : ℕ → List (List X) → List (List X) → Result (List (List X))
+  combined columns ls ms = eachPair product (standardized same columns ls) (standardized same columns ms)
+
+  -- 01: "Abs and Negative map whole numbers and keep repeats" (those of the result: the operand's go first, as in the Rust)
+  unfoldable pub mapped : ℕ → List (List X) → Result (List (List X))
+  mapped columns ls = each (each (λ a. rule a a)) (standardized same columns ls)
+
+-- 26: "The result holds over 128 categories, counted as they would be written"; tested only if no pair fails
+unfoldable pub counted : {X : Type 0} → ℕ → List (List X) → Result (List (List X))
+counted limit ls = cond (ltb limit (total ls)) (refused 26) (ok ls)
+
+-- the nature of lists that keep to the limit
+abbrev pub limited : ℕ → Result (List (List ℤ)) → Result Nature
+limited limit g = andThen g (λ ls. andThen (counted limit ls) (λ ms. ok (wholeLists ms)))

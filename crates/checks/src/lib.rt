@@ -1,0 +1,244 @@
+// Checks 3 to 5 of a sheet. Each test is computed whole, without a branch where it has no loop: a sheet that passes has every test made anyway.
+use base::form;
+use base::form::Form;
+use base::refusals;
+use spans::Faults;
+ghost use mathlib.Core.Path.{_≡_};
+ghost use mathlib.Core.Bool.{false};
+ghost use Prim.Native.Nat.{_+_, _≤_, _<_};
+ghost use lib.Dec.{eqb};
+ghost use lib.ListN.{length};
+ghost use Rattle.base.specs.Form.{formOf, byteAt, reservedAt, reservedCount, fieldsEnd};
+ghost use Rattle.base.specs.Checks.{read, holdsFrom, sizesFail, fieldPermitted, gapPermitted, bytesPermitted, valuesPermitted, columnsPermitted, keyPermitted, groupsPermitted, numberPermitted, listsPermitted, boolPermitted};
+ghost use Rattle.base.specs.Sized.{GroupsFit, ListsFit};
+ghost use Rattle.base.specs.Entries.{headFails};
+ghost use Rattle.checks.specs.Found.{NatureFaults};
+ghost use Rattle.base.specs.Code.{codeOf};
+
+mod spans; // 4 and 5 of a range
+
+// ---- 3
+
+// Whether a size exceeds its limit, or the length is not what the sizes call for.
+fn sizes_fail(f: Form, s: &[u8]) -> bool
+    ensures { λ r. ⌜ r ≡ sizesFail (formOf f) (now (s .entry)) ⌝ }
+{
+    if s.len() < f.arrays_at() {
+        return true;
+    }
+    let sizes = base::sizes_at(f, s);
+    let g = sizes.groups;
+    let n = sizes.lists;
+    let t = sizes.categories;
+    if f.group_limit() < g {
+        return true;
+    }
+    if f.list_limit() < n {
+        return true;
+    }
+    if f.category_limit() < t {
+        return true;
+    }
+    s.len() != f.called_for(base::nature_of(f, s), g, n, t)
+}
+
+// ---- 4, the fields of one value
+
+// Whether the bytes behind the marks are zero: the last mark and these seven are one number of 64 bits.
+fn reserved_permitted(f: Form, s: &[u8]) -> bool
+    requires { ⌜ formOf f .arraysAt ≤ length (now s) ⌝ }
+    ensures { λ r. ⌜ r ≡ holdsFrom reservedCount reservedAt (λ k. eqb (byteAt (formOf f) k (now (s .entry))) 0) ⌝ }
+{
+    base::u64_in(f, s, form::SAMPLE_MARK_AT) < 256
+}
+
+// Whether the bytes between the last field and the arrays are zero.
+fn gap_permitted(f: Form, s: &[u8]) -> bool
+    requires { ⌜ formOf f .arraysAt ≤ length (now s) ⌝ }
+    ensures { λ r. ⌜ r ≡ gapPermitted (formOf f) (now (s .entry)) ⌝ }
+{
+    match f {
+        Form::Narrow => true,
+        Form::Wide => base::u16_at(s, form::WIDE_FIELDS_END) == 0,
+    }
+}
+
+fn bytes_permitted(f: Form, s: &[u8]) -> bool
+    requires { ⌜ formOf f .arraysAt ≤ length (now s) ⌝ }
+    ensures { λ r. ⌜ r ≡ bytesPermitted (formOf f) (now (s .entry)) ⌝ }
+{
+    (base::nature_of(f, s) <= form::LAST_NATURE)
+        & (base::byte_in(f, s, form::TYPE_AT) <= form::LAST_TYPE)
+        & (base::byte_in(f, s, form::NULLITY_AT) <= 1)
+        & (base::byte_in(f, s, form::RELEASABLE_AT) <= 1)
+        & (base::byte_in(f, s, form::NOT_EMPTY_AT) <= 1)
+        & (base::byte_in(f, s, form::ORDERED_AT) <= 1)
+        & reserved_permitted(f, s)
+        & gap_permitted(f, s)
+}
+
+// 0 where a field's mark is permitted, with its 64 bits, by their places in 01: words are gathered by `|`, without a branch.
+fn field_word(f: Form, s: &[u8], mark: usize, at: usize) -> u64
+    requires { ⌜ (formOf f .arraysAt ≤ length (now s)) × (mark < fieldsEnd) × (at + 8 ≤ fieldsEnd) ⌝ }
+    ensures { λ r. ⌜ eqb r 0 ≡ fieldPermitted (formOf f) (now (s .entry)) mark at ⌝ }
+{
+    spans::end_word(base::byte_in(f, s, mark), base::u64_in(f, s, at))
+}
+
+fn columns_permitted(f: Form, s: &[u8]) -> bool
+    requires { ⌜ formOf f .arraysAt ≤ length (now s) ⌝ }
+    ensures { λ r. ⌜ r ≡ columnsPermitted (formOf f) (now (s .entry)) ⌝ }
+{
+    let columns = base::u64_in(f, s, form::COLUMNS_AT);
+    (base::byte_in(f, s, form::COLUMNS_MARK_AT) == 0)
+        | ((0 < columns) & (columns <= f.column_limit()))
+}
+
+fn values_permitted(f: Form, s: &[u8]) -> bool
+    requires { ⌜ formOf f .arraysAt ≤ length (now s) ⌝ }
+    ensures { λ r. ⌜ r ≡ valuesPermitted (formOf f) (now (s .entry)) ⌝ }
+{
+    let bad = field_word(f, s, form::ROWS_MARK_AT, form::ROWS_AT)
+        | field_word(f, s, form::COLUMNS_MARK_AT, form::COLUMNS_AT)
+        | field_word(f, s, form::DATASET_MARK_AT, form::DATASET_AT)
+        | field_word(f, s, form::DIMENSIONALITY_MARK_AT, form::DIMENSIONALITY_AT)
+        | field_word(f, s, form::SAMPLE_MARK_AT, form::SAMPLE_AT);
+    (bad == 0) & columns_permitted(f, s)
+}
+
+// ---- 4, the groups
+
+// Key i of g: its kind, and for a Bool its value.
+fn key_permitted(f: Form, s: &[u8], g: usize, i: usize) -> bool
+    requires { ⌜ GroupsFit (formOf f) (now s) g × (i < g) ⌝ }
+    ensures { λ r. ⌜ r ≡ keyPermitted (formOf f) (now (s .entry)) i ⌝ }
+{
+    let at = f.key_at(g, i);
+    let kind = base::byte_at(s, at);
+    (0 < kind)
+        & (kind <= form::LAST_KEY)
+        & ((kind != form::BOOL_KEY) | (base::u64_at(s, at + 1) <= 1))
+}
+
+fn groups_permitted(f: Form, s: &[u8], g: usize) -> bool
+    requires { ⌜ GroupsFit (formOf f) (now s) g ⌝ }
+    ensures { λ r. ⌜ r ≡ groupsPermitted (formOf f) (now (s .entry)) ⌝ }
+{
+    let mut i = 0;
+    while i < g {
+        if !key_permitted(f, s, g, i) {
+            return false;
+        }
+        i += 1;
+    }
+    true
+}
+
+// ---- 4, categories
+
+// Whether no list number is below the one before it, and each is below n. Where none falls, the last is the greatest and is tested for all. Before the
+// first stands 0, which no number is below.
+fn numbers_permitted(f: Form, s: &[u8], g: usize, n: usize, t: usize) -> bool
+    requires { ⌜ ListsFit (formOf f) (now s) g n t ⌝ }
+    ensures { λ r. ⌜ r ≡ holdsFrom t 0 (numberPermitted (formOf f) (now (s .entry))) ⌝ }
+{
+    let mut fallen = false;
+    let mut last = 0;
+    let mut i = 0;
+    while i < t {
+        let number = base::list_number(f, s, g, n, t, i);
+        fallen = fallen | (number < last);
+        last = number;
+        i += 1;
+    }
+    !fallen & ((t == 0) | (last < n))
+}
+
+// Whether each of t values is 0 or 1.
+fn bools_permitted(f: Form, s: &[u8], g: usize, n: usize, t: usize) -> bool
+    requires { ⌜ ListsFit (formOf f) (now s) g n t ⌝ }
+    ensures { λ r. ⌜ r ≡ holdsFrom t 0 (boolPermitted (formOf f) (now (s .entry))) ⌝ }
+{
+    let mut bad = false;
+    let mut i = 0;
+    while i < t {
+        bad = bad | (1 < base::u64_at(s, f.value_at(g, t, i)));
+        i += 1;
+    }
+    !bad
+}
+
+fn lists_permitted(f: Form, s: &[u8], g: usize, n: usize, t: usize) -> bool
+    requires { ⌜ ListsFit (formOf f) (now s) g n t ⌝ }
+    ensures { λ r. ⌜ r ≡ listsPermitted (formOf f) (now (s .entry)) ⌝ }
+{
+    let numbers = numbers_permitted(f, s, g, n, t);
+    if base::nature_of(f, s) == form::BOOL_LISTS {
+        return numbers & bools_permitted(f, s, g, n, t);
+    }
+    numbers
+}
+
+// ---- 4 of all that stands before the nature's arrays; 4 and 5 of the nature
+
+// Whether a field of one value or a group has none of its permitted values.
+fn head_fails(f: Form, s: &[u8]) -> bool
+    requires { ⌜ sizesFail (formOf f) (now s) ≡ false ⌝ }
+    ensures { λ r. ⌜ r ≡ headFails (formOf f) (now (s .entry)) ⌝ }
+{
+    let sizes = base::sizes_at(f, s);
+    let g = sizes.groups;
+    !(bytes_permitted(f, s) & values_permitted(f, s) & groups_permitted(f, s, g))
+}
+
+// What has no range passes 5.
+fn nature_faults(f: Form, s: &[u8]) -> Faults
+    requires { ⌜ sizesFail (formOf f) (now s) ≡ false ⌝ }
+    ensures { λ r. ⌜ NatureFaults (formOf f) (now (s .entry)) r ⌝ }
+{
+    let sizes = base::sizes_at(f, s);
+    let g = sizes.groups;
+    let n = sizes.lists;
+    let t = sizes.categories;
+    let nature = base::nature_of(f, s);
+    if nature == form::ABSENT_NATURE {
+        return Faults {
+            fields: (n != 0) | (t != 0),
+            bounds: false,
+        };
+    }
+    if form::is_range(nature) {
+        let entries = spans::entry_faults(f, s, nature == form::FLOAT_RANGE, g, n);
+        return Faults {
+            fields: (t != 0) | entries.fields,
+            bounds: entries.bounds,
+        };
+    }
+    Faults {
+        fields: !lists_permitted(f, s, g, n, t),
+        bounds: false,
+    }
+}
+
+// ---- checks 3 to 5
+
+// 0, or the number of the first check of 3 to 5 that the sheet breaks.
+pub fn check_sheet(f: Form, s: &[u8]) -> u32
+    ensures { λ r. ⌜ r ≡ codeOf (read (formOf f) (now (s .entry))) ⌝ }
+{
+    if sizes_fail(f, s) {
+        return refusals::SIZES;
+    }
+    if head_fails(f, s) {
+        return refusals::FIELDS;
+    }
+    // One pass finds both: 5 is answered where all of 4 has passed.
+    let nature = nature_faults(f, s);
+    if nature.fields {
+        return refusals::FIELDS;
+    }
+    if nature.bounds {
+        return refusals::BOUNDS;
+    }
+    0
+}

@@ -1,0 +1,21 @@
+-- What the proofs of several functions cite.
+pub mod Accepted
+pub mod Answers
+pub mod Columns
+pub mod Contained
+pub mod Corners
+pub mod Ends
+pub mod Entries
+pub mod Lists
+pub mod Natures
+pub mod Nodes
+pub mod Order
+pub mod Passed
+pub mod Products
+pub mod Quotients
+pub mod Ranges
+pub mod Rules
+pub mod Shown
+pub mod Slots
+pub mod Spans
+pub mod Steps

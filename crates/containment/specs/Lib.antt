@@ -1,0 +1,6 @@
+pub mod Exact
+pub mod Demand
+pub mod Within
+pub mod Asks
+pub mod Good
+pub mod Shown

@@ -1,0 +1,155 @@
+-- One plan of demand 3, given by its bytes, so that the demand does not speak of nothing: the plan, its work buffer before and after the call, a row, and the
+-- row's exact results. `proofs/Shown` holds the plan call and demand 3 to them.
+use mathlib.Core.Bool.{Bool, true, false}
+use mathlib.Core.List.{List, [], _∷_, _++_}
+use mathlib.Core.Option.{none, some}
+use Prim.Native.Nat.{ℕ, _-_, _*_}
+use lib.IntN.{ℤ, pos}
+use lib.ListN.{length, replicate, getD}
+use Rattle.numbers.specs.Kind.{Span}
+use Rattle.base.specs.Form.{narrow, longest, intType}
+use Rattle.base.specs.Sheet.{Nature, wholeRange, wholeLists, Sheet}
+use Rattle.base.specs.Encode.{encode, joined}
+use Rattle.step_laws.specs.Shelf.{minus}
+use Rattle.calls.specs.Walk.{plan}
+use Rattle.containment.specs.Exact.{Row, Results}
+use Rattle.containment.specs.Demand.{sheetOf}
+
+-- ---- the plan
+
+unfoldable pub shownPlan : List ℕ
+shownPlan =
+    13 ∷ 0  -- N, the nodes
+    ∷ 5 ∷ 0  -- K, the leaves
+    ∷ 4 ∷ 0 ∷ 0 ∷ 0  -- node 5: Multiply
+    ∷ 5 ∷ 0 ∷ 0 ∷ 0  -- node 6: Divide
+    ∷ 6 ∷ 0 ∷ 0 ∷ 0  -- node 7: Modulo
+    ∷ 2 ∷ 0 ∷ 0 ∷ 0  -- node 8: Add
+    ∷ 3 ∷ 0 ∷ 0 ∷ 0  -- node 9: Subtract
+    ∷ 8 ∷ 0 ∷ 0 ∷ 0  -- node 10: Power
+    ∷ 9 ∷ 0 ∷ 0 ∷ 0  -- node 11: Negative
+    ∷ 1 ∷ 0 ∷ 0 ∷ 0  -- node 12: Abs
+    ∷ 0 ∷ 0 ∷ 1 ∷ 0  -- node 5: left 0, right 1
+    ∷ 5 ∷ 0 ∷ 2 ∷ 0  -- node 6: left 5, right 2
+    ∷ 6 ∷ 0 ∷ 1 ∷ 0  -- node 7: left 6, right 1
+    ∷ 3 ∷ 0 ∷ 4 ∷ 0  -- node 8: left 3, right 4
+    ∷ 8 ∷ 0 ∷ 3 ∷ 0  -- node 9: left 8, right 3
+    ∷ 7 ∷ 0 ∷ 1 ∷ 0  -- node 10: left 7, right 1
+    ∷ 6 ∷ 0 ∷ 6 ∷ 0  -- node 11: left 6, right 6
+    ∷ 11 ∷ 0 ∷ 11 ∷ 0  -- node 12: left 11, right 11
+    ∷ []
+
+-- ---- its sheets
+
+-- private, of type Int, 100 rows of one data set; by node number, order, columns and nature
+abbrev pub sheetWith : ℤ → Bool → ℕ → Nature → Sheet
+sheetWith node ordered columns k = record {
+  fields = record {
+    dataType = intType;
+    nullity = false;
+    releasable = false;
+    notEmpty = true;
+    ordered = ordered;
+    cStability = 1;
+    aggregator = 0;
+    rows = some (pos 100);
+    columns = some columns;
+    dataset = some (pos 7);
+    dimensionality = some (pos 2);
+    sample = none;
+  };
+  node = node;
+  groups = [];
+  nature = k;
+}
+
+abbrev pub between : ℤ → ℤ → Span ℤ
+between a c = record { lower = some a; upper = some c }
+
+abbrev pub endless : Span ℤ
+endless = record { lower = none; upper = none }
+
+-- a leaf's node number is whatever it was handed in with
+abbrev pub leaf : ℕ → Nature → Sheet
+leaf columns k = sheetWith (pos 40) false columns k
+
+-- nodes 0 to 4: two columns under one entry, one column, two columns with an entry each (the divisor, above 0 and below 0), and two of categories
+unfoldable pub shownLeaves : List Sheet
+shownLeaves =
+    leaf 2 (wholeRange (between (minus 2) (pos 3) ∷ []))
+    ∷ leaf 1 (wholeRange (between (pos 4) (pos 5) ∷ []))
+    ∷ leaf 2 (wholeRange (between (pos 2) (pos 3) ∷ between (minus 4) (minus 3) ∷ []))
+    ∷ leaf 1 (wholeLists ((pos 1 ∷ pos 2 ∷ []) ∷ []))
+    ∷ leaf 1 (wholeLists ((pos 10 ∷ pos 11 ∷ []) ∷ []))
+    ∷ []
+
+-- a step's sheet, with its own node number (2 to 5) or with that of the operand that it copies
+abbrev pub derived : ℕ → ℕ → Nature → Sheet
+derived node columns k = sheetWith (pos node) true columns k
+
+-- nodes 5 to 12, as the call is to leave them
+unfoldable pub shownSteps : List Sheet
+shownSteps =
+    derived 5 2 (wholeRange (between (minus 10) (pos 15) ∷ between (minus 10) (pos 15) ∷ []))
+    ∷ derived 6 2 (wholeRange (between (minus 5) (pos 7) ∷ between (minus 5) (pos 3) ∷ []))
+    ∷ derived 6 2 (wholeRange (between (pos 0) (pos 4) ∷ between (pos 0) (pos 4) ∷ []))
+    ∷ derived 8 1 (wholeLists ((pos 11 ∷ pos 12 ∷ pos 13 ∷ []) ∷ []))
+    ∷ derived 9 1 (wholeLists ((pos 10 ∷ pos 9 ∷ pos 11 ∷ pos 12 ∷ []) ∷ []))
+    ∷ derived 6 2 (wholeRange (endless ∷ endless ∷ []))
+    ∷ derived 6 2 (wholeRange (between (minus 7) (pos 5) ∷ between (minus 3) (pos 5) ∷ []))
+    ∷ derived 6 2 (wholeRange (between (minus 5) (pos 7) ∷ between (minus 5) (pos 5) ∷ []))
+    ∷ []
+
+-- ---- the work buffer
+
+-- what stands behind a sheet, and in a slot that no step has written
+abbrev pub filler : ℕ
+filler = 165
+
+abbrev pub slotWith : List ℕ → List ℕ
+slotWith bytes = bytes ++ replicate (longest narrow - length bytes) filler
+
+unfoldable pub slotsOf : List Sheet → List ℕ
+slotsOf sheets = joined (λ s. slotWith (encode narrow s)) sheets
+
+unfoldable pub shownWork : List ℕ
+shownWork = slotsOf shownLeaves ++ replicate (length shownSteps * longest narrow) filler
+
+unfoldable pub shownAfter : List ℕ
+shownAfter = slotsOf (shownLeaves ++ shownSteps)
+
+-- the nodes' sheets as demand 3 reads them
+abbrev pub shownSheet : ℕ → Sheet
+shownSheet = sheetOf narrow shownPlan shownWork (plan narrow shownPlan shownWork .bytes)
+
+-- ---- a row, and what the plan computes on it
+
+unfoldable pub shownNumbers : List (List ℤ)
+shownNumbers =
+    (pos 3 ∷ minus 2 ∷ [])
+    ∷ (pos 5 ∷ [])
+    ∷ (pos 2 ∷ minus 3 ∷ [])
+    ∷ (pos 2 ∷ [])
+    ∷ (pos 11 ∷ [])
+    ∷ []
+
+unfoldable pub shownRow : Row
+shownRow = record { number = λ k j. getD (getD shownNumbers k []) j (pos 0) }
+
+-- of every node, leaves first
+unfoldable pub shownResults : List Results
+shownResults =
+    (some (pos 3) ∷ some (minus 2) ∷ [])
+    ∷ (some (pos 5) ∷ [])
+    ∷ (some (pos 2) ∷ some (minus 3) ∷ [])
+    ∷ (some (pos 2) ∷ [])
+    ∷ (some (pos 11) ∷ [])
+    ∷ (some (pos 15) ∷ some (minus 10) ∷ [])
+    ∷ (some (pos 7) ∷ some (pos 3) ∷ [])
+    ∷ (some (pos 2) ∷ some (pos 3) ∷ [])
+    ∷ (some (pos 13) ∷ [])
+    ∷ (some (pos 11) ∷ [])
+    ∷ (some (pos 32) ∷ some (pos 243) ∷ [])
+    ∷ (some (minus 7) ∷ some (minus 3) ∷ [])
+    ∷ (some (pos 7) ∷ some (pos 3) ∷ [])
+    ∷ []

@@ -1,0 +1,88 @@
+-- What a step is lent: the category stores, where whole categories are mapped or combined, and two buffers for the derived nature.
+--     none-held                            left alone decides where it holds no lists
+--     joined, alone                        whole categories are combined or mapped
+--     used                                 so that the stores are there
+--     lent-alone                           a mapping is lent left's store for both operands
+--     range-room                           the buffers have room for a range of every column
+--     ends-room, lists-room                the arrays of a range, and of categories, keep to the room of a derived nature
+--     wider                                what keeps to a room keeps to a greater one
+-- Assumes nothing.
+use mathlib.Core.Path.{_≡_, refl, sym, ap, subst}
+use mathlib.Core.Bool.{Bool, true, false, cond}
+use mathlib.Core.List.{List}
+use Prim.Native.Nat.{ℕ, _*_, _≤_}
+use native.Mathlib.Omega.{arith}
+use lib.IntN.{ℤ}
+use lib.ListN.{length}
+use borrow.Author.Tests.{le-leb}
+use Rattle.base.specs.Form.{Form, Laid}
+use Rattle.base.specs.declared.Family.{Family}
+use Rattle.base.specs.declared.Family.the-variants as Fam
+use Rattle.base.proofs.Passed.{passed, long-enough}
+use Rattle.writer.specs.Written.{endsRoom, listsRoom, Within}
+use Rattle.writer.specs.declared.Derived.{Derived}
+use Rattle.writer.specs.declared.Derived.the-variants as D
+use Rattle.category_lists.specs.Answers.{Stores, Arrays}
+use Rattle.category_lists.specs.Columnwise.{Listed}
+use Rattle.lending.specs.Code.{Read, Ready, holdsLists, joinsLists, arraysRoom, Lent, Buffers}
+use lib.Dec.{T}
+use Rattle.base.specs.Components.{isUnary}
+
+-- a sheet that was read has its fields
+pub stands : {F : Form} {s : List ℕ} → Read F s → F .arraysAt ≤ length s
+stands {F} {s} r = long-enough (passed F s (r .sizes))
+
+listed-held : {F : Form} {s : List ℕ} → Listed F s → holdsLists F s ≡ true
+listed-held {F} {s} l = rw (le-leb (F .arraysAt) (length s) (long-enough (passed F s (l .passed))), l .nature)
+
+-- left alone decides where it holds no lists
+pub none-held : (m : Family) (F : Form) (left right : List ℕ) → holdsLists F left ≡ false → false ≡ joinsLists m F left right
+none-held Fam.Unary F left right e = sym e
+none-held Fam.Pair F left right e = rw e
+none-held Fam.Copy F left right e = refl
+
+-- two sheets of whole categories are combined, and one is mapped
+module _ {m : Family} {F : Form} where
+  pub joined : {left right : List ℕ} → m ≡ Fam.Pair → Listed F left → Listed F right → joinsLists m F left right ≡ true
+  joined e l r = rw (e, listed-held l, listed-held r)
+
+  pub alone : {left : List ℕ} → m ≡ Fam.Unary → Listed F left → joinsLists m F left left ≡ true
+  alone e l = rw (e, listed-held l)
+
+pub used :
+    {m : Family} {F : Form} {left right : List ℕ} → joinsLists m F left right ≡ true
+    → {us bs store : List ℤ} {hints first second : List ℕ} → Lent m F left right us bs store hints first second → Stores F us bs store hints × Arrays F first second
+used e lent = (lent .stores e, lent .arrays e)
+
+pub lists-room : (m : Family) (F : Form) (left right : List ℕ) → joinsLists m F left right ≡ true → arraysRoom m F left right ≡ listsRoom F
+lists-room m F left right e = ap (λ (b : Bool). cond b (listsRoom F) (endsRoom F)) e
+
+-- where it reads one operand
+pub lent-alone :
+    {F : Form} {left right first second out : List ℕ} {us bs store : List ℤ} {hints : List ℕ} (m : Family) → m ≡ Fam.Unary
+    → Buffers m F left right first second out × Lent m F left right us bs store hints first second
+    → Buffers m F left left first second out × Lent m F left left us us store hints first second
+lent-alone Fam.Unary e p = (
+  record { first-room = p .0 .first-room; second-room = p .0 .second-room; sheet-room = p .0 .sheet-room },
+  record {
+    stores = λ h. let s = p .1 .stores h in record { lefts = s .lefts; rights = s .lefts; results = s .results; hinted = s .hinted };
+    arrays = p .1 .arrays;
+  },
+)
+lent-alone Fam.Pair e p = absurd (subst T (sym (ap isUnary e)) tt)
+lent-alone Fam.Copy e p = absurd (subst T (sym (ap isUnary e)) tt)
+
+pub range-room :
+    {F : Form} {columns : ℕ} {first second : List ℕ} → Ready F columns first second → Laid F → (9 * columns ≤ length first) × (9 * columns ≤ length second)
+range-room ready laid = let listed = laid .columnsListed in omega arith
+
+least : (b : Bool) {x y : ℕ} → y ≤ x → y ≤ cond b x y
+least true h = h
+least false h = omega arith
+
+pub ends-room : {F : Form} → Laid F → (m : Family) (left right : List ℕ) → endsRoom F ≤ arraysRoom m F left right
+ends-room {F} laid m left right = least (joinsLists m F left right) (laid .rangesShorter)
+
+pub wider : (F : Form) {a b : ℕ} (first second : List ℕ) → a ≤ b → (d : Derived) → Within F a first second d → Within F b first second d
+wider F first second h (D.Nature p) z = record { entries = z .entries; values = z .values; first-held = z .first-held; second-held = z .second-held; both = omega arith }
+wider F first second h (D.Refused k) z = tt

@@ -1,0 +1,286 @@
+-- What two natures make, by their numbers.
+--     number-of, count-of    the number and the list count of the nature that a sheet's bytes spell
+--     absent-left, absent-right, range-with-lists, lists-with-range, unequal-ranges, both-ranges, both-lists    of two natures
+--     alone-absent, alone-range, alone-lists    of one
+-- Assumes nothing.
+use mathlib.Core.Path.{_≡_, refl, sym, ap, subst, _∙_}
+use mathlib.Core.Bool.{Bool, true, false, _&&_, _||_}
+use mathlib.Core.List.{List}
+use Prim.Native.Nat.{ℕ, zero, suc, _≤_}
+use native.Mathlib.Omega.{arith}
+use lib.IntN.{ℤ}
+use lib.Ieee.{Float}
+use lib.Dec.{T, eqb, leb}
+use borrow.Author.Tests.{leb-true, eqb-true}
+use Rattle.numbers.specs.Result.{ok, refused}
+use Rattle.numbers.specs.Kind.{Span, whole, float}
+use Rattle.base.specs.Form.{Form, byteAt, natureAt, typeAt, nullityAt, releasableAt, notEmptyAt, orderedAt, reservedAt, reservedCount, lastNature, lastType, isRangeNature, listCount}
+use Rattle.base.specs.Sheet.{Nature, absent, wholeRange, floatRange, wholeLists, boolLists, floatLists}
+use Rattle.base.specs.Decode.{asWhole, asFloat, asBits, natureIn, entries}
+use Rattle.base.specs.Encode.{natureNumber, entryCount}
+use Rattle.base.specs.Checks.{bytesPermitted, flagPermitted, gapPermitted, holdsFrom}
+use Rattle.base.specs.Components.{familyOf}
+use Rattle.base.specs.declared.Component.{Component}
+use Rattle.base.specs.declared.Component.the-variants as C
+use Rattle.base.proofs.Flags.{and-both}
+use Rattle.base.proofs.Permitted.{permitted}
+use Rattle.base.proofs.Natures.{nature-absent, nature-whole-range, nature-float-range, nature-whole-lists, nature-bool-lists, nature-float-lists}
+use Rattle.ends.specs.Ends.{endRule}
+use Rattle.ends.specs.Ranges.{wholeRule, rangeNature}
+use Rattle.ranges.proofs.Alone.{alone-is}
+use Rattle.category_lists.proofs.Operands.{lists-length}
+use Rattle.calls.specs.Natures.{listsPair, listsAlone, wholeRangeWith, floatRangeWith, listsWith, binaryNature, unaryNature}
+use Rattle.lending.specs.Code.{Read}
+use Rattle.natures.specs.Code.{Lists, hasRule}
+
+pub yes-no : _≡_ {A = Bool} true false → ⊥
+yes-no e = subst T e tt
+
+-- a range that is not float is whole
+range-whole : (k : ℕ) → isRangeNature k ≡ true → eqb k 2 ≡ false → k ≡ 1
+range-whole k y e = go (eqb k 1) refl (rw e at y)
+  where
+    go : (a : Bool) → eqb k 1 ≡ a → (a || false) ≡ true → k ≡ 1
+    go true e h = eqb-true k 1 e
+    go false e h = absurd (yes-no (sym h))
+
+-- ---- a sheet's nature
+
+module _ (F : Form) (s : List ℕ) where
+  nature-first : bytesPermitted F s ≡ true → byteAt F natureAt s ≤ 5
+  unfolding bytesPermitted
+  nature-first e =
+      let n = leb (byteAt F natureAt s) lastNature in
+      let t = leb (byteAt F typeAt s) lastType in
+      let u = flagPermitted F s nullityAt in
+      let v = flagPermitted F s releasableAt in
+      let w = flagPermitted F s notEmptyAt in
+      let o = flagPermitted F s orderedAt in
+      let z = holdsFrom reservedCount reservedAt (λ k. eqb (byteAt F k s) 0) in
+      let six = and-both (n && t && u && v && w && o && z) (gapPermitted F s) e .0 in
+      let five = and-both (n && t && u && v && w && o) z six .0 in
+      let four = and-both (n && t && u && v && w) o five .0 in
+      let three = and-both (n && t && u && v) w four .0 in
+      let two = and-both (n && t && u) v three .0 in
+      leb-true (byteAt F natureAt s) 5 (and-both n t (and-both (n && t) u two .0) .0)
+
+  pub nature-within : Read F s → byteAt F natureAt s ≤ 5
+  nature-within r = nature-first (permitted F s (r .fields) .bytes)
+
+  numbered : (k : ℕ) → k ≤ 5 → byteAt F natureAt s ≡ k → natureNumber (natureIn F s) ≡ k
+  numbered zero h e = ap natureNumber (nature-absent F s e)
+  numbered (suc zero) h e = ap natureNumber (nature-whole-range F s e)
+  numbered (suc (suc zero)) h e = ap natureNumber (nature-float-range F s e)
+  numbered (suc (suc (suc zero))) h e = ap natureNumber (nature-whole-lists F s e)
+  numbered (suc (suc (suc (suc zero)))) h e = ap natureNumber (nature-bool-lists F s e)
+  numbered (suc (suc (suc (suc (suc zero))))) h e = ap natureNumber (nature-float-lists F s e)
+  numbered (suc (suc (suc (suc (suc (suc k)))))) h e = absurd (omega arith)
+
+  pub number-of : Read F s → natureNumber (natureIn F s) ≡ byteAt F natureAt s
+  number-of r = numbered (byteAt F natureAt s) (nature-within r) refl
+
+  entered : (k : ℕ) → k ≤ 5 → eqb k 0 ≡ false → isRangeNature k ≡ false → byteAt F natureAt s ≡ k → entryCount (natureIn F s) ≡ listCount F s
+  entered zero h p n e = absurd (yes-no p)
+  entered (suc zero) h p n e = absurd (yes-no n)
+  entered (suc (suc zero)) h p n e = absurd (yes-no n)
+  entered (suc (suc (suc zero))) h p n e = ap entryCount (nature-whole-lists F s e) ∙ lists-length F s asWhole
+  entered (suc (suc (suc (suc zero)))) h p n e = ap entryCount (nature-bool-lists F s e) ∙ lists-length F s asBits
+  entered (suc (suc (suc (suc (suc zero))))) h p n e = ap entryCount (nature-float-lists F s e) ∙ lists-length F s asBits
+  entered (suc (suc (suc (suc (suc (suc k)))))) h p n e = absurd (omega arith)
+
+  pub count-of : Lists F s → entryCount (natureIn F s) ≡ listCount F s
+  count-of l = entered (byteAt F natureAt s) (nature-within (l .read)) (l .present) (l .no-range) refl
+
+-- ---- by numbers alone
+
+is-absent : (k : Nature) → natureNumber k ≡ 0 → k ≡ absent
+is-absent absent e = refl
+is-absent (wholeRange rs) e = absurd (omega arith)
+is-absent (floatRange rs) e = absurd (omega arith)
+is-absent (wholeLists ls) e = absurd (omega arith)
+is-absent (boolLists ls) e = absurd (omega arith)
+is-absent (floatLists ls) e = absurd (omega arith)
+
+module _ (limit : ℕ) (c : Component) (type columns : ℕ) where
+  pub absent-left : (l r : Nature) → natureNumber l ≡ 0 → binaryNature limit c type columns l r ≡ ok absent
+  unfolding binaryNature
+  absent-left l r e = ap (λ (k : Nature). binaryNature limit c type columns k r) (is-absent l e)
+
+  with-absent : (l : Nature) → binaryNature limit c type columns l absent ≡ ok absent
+  unfolding binaryNature wholeRangeWith floatRangeWith listsWith
+  with-absent absent = refl
+  with-absent (wholeRange rs) = refl
+  with-absent (floatRange rs) = refl
+  with-absent (wholeLists ls) = refl
+  with-absent (boolLists ls) = refl
+  with-absent (floatLists ls) = refl
+
+  pub absent-right : (l r : Nature) → natureNumber r ≡ 0 → binaryNature limit c type columns l r ≡ ok absent
+  absent-right l r e = ap (λ (k : Nature). binaryNature limit c type columns l k) (is-absent r e) ∙ with-absent l
+
+  -- a range with what is no range
+  whole-without : (xs : List (Span ℤ)) (r : Nature) → isRangeNature (natureNumber r) ≡ false → wholeRangeWith limit c type columns xs r ≡ ok absent
+  unfolding wholeRangeWith
+  whole-without xs absent e = refl
+  whole-without xs (wholeRange rs) e = absurd (yes-no e)
+  whole-without xs (floatRange rs) e = absurd (yes-no e)
+  whole-without xs (wholeLists ls) e = refl
+  whole-without xs (boolLists ls) e = refl
+  whole-without xs (floatLists ls) e = refl
+
+  float-without : (xs : List (Span Float)) (r : Nature) → isRangeNature (natureNumber r) ≡ false → floatRangeWith limit c type columns xs r ≡ ok absent
+  unfolding floatRangeWith
+  float-without xs absent e = refl
+  float-without xs (wholeRange rs) e = absurd (yes-no e)
+  float-without xs (floatRange rs) e = absurd (yes-no e)
+  float-without xs (wholeLists ls) e = refl
+  float-without xs (boolLists ls) e = refl
+  float-without xs (floatLists ls) e = refl
+
+  pub range-with-lists : (l r : Nature) → isRangeNature (natureNumber l) ≡ true → isRangeNature (natureNumber r) ≡ false → binaryNature limit c type columns l r ≡ ok absent
+  unfolding binaryNature
+  range-with-lists absent r y n = refl
+  range-with-lists (wholeRange xs) r y n = whole-without xs r n
+  range-with-lists (floatRange xs) r y n = float-without xs r n
+  range-with-lists (wholeLists ls) r y n = absurd (yes-no (sym y))
+  range-with-lists (boolLists ls) r y n = absurd (yes-no (sym y))
+  range-with-lists (floatLists ls) r y n = absurd (yes-no (sym y))
+
+  -- lists with a range, and with lists
+  lists-ranged : (l r : Nature) → isRangeNature (natureNumber r) ≡ true → listsWith limit c type columns l r ≡ ok absent
+  unfolding listsWith
+  lists-ranged l absent e = refl
+  lists-ranged l (wholeRange rs) e = refl
+  lists-ranged l (floatRange rs) e = refl
+  lists-ranged l (wholeLists ls) e = absurd (yes-no (sym e))
+  lists-ranged l (boolLists ls) e = absurd (yes-no (sym e))
+  lists-ranged l (floatLists ls) e = absurd (yes-no (sym e))
+
+  pub lists-with-range : (l r : Nature) → isRangeNature (natureNumber l) ≡ false → isRangeNature (natureNumber r) ≡ true → binaryNature limit c type columns l r ≡ ok absent
+  unfolding binaryNature
+  lists-with-range absent r n y = refl
+  lists-with-range (wholeRange xs) r n y = absurd (yes-no n)
+  lists-with-range (floatRange xs) r n y = absurd (yes-no n)
+  lists-with-range (wholeLists ls) r n y = lists-ranged (wholeLists ls) r y
+  lists-with-range (boolLists ls) r n y = lists-ranged (boolLists ls) r y
+  lists-with-range (floatLists ls) r n y = lists-ranged (floatLists ls) r y
+
+  lists-listed : (l r : Nature) → (natureNumber r ≡ 0 → ⊥) → isRangeNature (natureNumber r) ≡ false → listsWith limit c type columns l r ≡ listsPair limit c type columns l r
+  unfolding listsWith
+  lists-listed l absent p n = absurd (p refl)
+  lists-listed l (wholeRange rs) p n = absurd (yes-no n)
+  lists-listed l (floatRange rs) p n = absurd (yes-no n)
+  lists-listed l (wholeLists ls) p n = refl
+  lists-listed l (boolLists ls) p n = refl
+  lists-listed l (floatLists ls) p n = refl
+
+  pub both-lists : (l r : Nature) → (natureNumber l ≡ 0 → ⊥) → isRangeNature (natureNumber l) ≡ false → (natureNumber r ≡ 0 → ⊥) → isRangeNature (natureNumber r) ≡ false
+      → binaryNature limit c type columns l r ≡ listsPair limit c type columns l r
+  unfolding binaryNature
+  both-lists absent r p n q m = absurd (p refl)
+  both-lists (wholeRange xs) r p n q m = absurd (yes-no n)
+  both-lists (floatRange xs) r p n q m = absurd (yes-no n)
+  both-lists (wholeLists ls) r p n q m = lists-listed (wholeLists ls) r q m
+  both-lists (boolLists ls) r p n q m = lists-listed (boolLists ls) r q m
+  both-lists (floatLists ls) r p n q m = lists-listed (floatLists ls) r q m
+
+  -- one range whole, the other float
+  whole-other : (xs : List (Span ℤ)) (r : Nature) → isRangeNature (natureNumber r) ≡ true → (1 ≡ natureNumber r → ⊥) → wholeRangeWith limit c type columns xs r ≡ refused 17
+  unfolding wholeRangeWith
+  whole-other xs absent y d = absurd (yes-no (sym y))
+  whole-other xs (wholeRange rs) y d = absurd (d refl)
+  whole-other xs (floatRange rs) y d = refl
+  whole-other xs (wholeLists ls) y d = absurd (yes-no (sym y))
+  whole-other xs (boolLists ls) y d = absurd (yes-no (sym y))
+  whole-other xs (floatLists ls) y d = absurd (yes-no (sym y))
+
+  float-other : (xs : List (Span Float)) (r : Nature) → isRangeNature (natureNumber r) ≡ true → (2 ≡ natureNumber r → ⊥) → floatRangeWith limit c type columns xs r ≡ refused 17
+  unfolding floatRangeWith
+  float-other xs absent y d = absurd (yes-no (sym y))
+  float-other xs (wholeRange rs) y d = refl
+  float-other xs (floatRange rs) y d = absurd (d refl)
+  float-other xs (wholeLists ls) y d = absurd (yes-no (sym y))
+  float-other xs (boolLists ls) y d = absurd (yes-no (sym y))
+  float-other xs (floatLists ls) y d = absurd (yes-no (sym y))
+
+  pub unequal-ranges : (l r : Nature) → isRangeNature (natureNumber l) ≡ true → isRangeNature (natureNumber r) ≡ true → (natureNumber l ≡ natureNumber r → ⊥)
+      → binaryNature limit c type columns l r ≡ refused 17
+  unfolding binaryNature
+  unequal-ranges absent r x y d = absurd (yes-no (sym x))
+  unequal-ranges (wholeRange xs) r x y d = whole-other xs r y d
+  unequal-ranges (floatRange xs) r x y d = float-other xs r y d
+  unequal-ranges (wholeLists ls) r x y d = absurd (yes-no (sym x))
+  unequal-ranges (boolLists ls) r x y d = absurd (yes-no (sym x))
+  unequal-ranges (floatLists ls) r x y d = absurd (yes-no (sym x))
+
+  -- two ranges of one kind, of two sheets
+  module _ (F : Form) (left right : List ℕ) where
+    both-whole : byteAt F natureAt left ≡ 1 → byteAt F natureAt right ≡ 1
+        → binaryNature limit c type columns (natureIn F left) (natureIn F right) ≡ rangeNature F false c type columns left right
+    unfolding binaryNature wholeRangeWith rangeNature
+    both-whole e h = rw (nature-whole-range F left e, nature-whole-range F right h)
+
+    both-float : byteAt F natureAt left ≡ 2 → byteAt F natureAt right ≡ 2
+        → binaryNature limit c type columns (natureIn F left) (natureIn F right) ≡ rangeNature F true c type columns left right
+    unfolding binaryNature floatRangeWith rangeNature
+    both-float e h = rw (nature-float-range F left e, nature-float-range F right h)
+
+    pub both-ranges : isRangeNature (byteAt F natureAt left) ≡ true → byteAt F natureAt left ≡ byteAt F natureAt right
+        → binaryNature limit c type columns (natureIn F left) (natureIn F right)
+        ≡ rangeNature F (eqb (byteAt F natureAt left) 2) c type columns left right
+    both-ranges y same = go (eqb k 2) refl
+      where
+        k : ℕ
+        k = byteAt F natureAt left
+
+        go : (b : Bool) → eqb k 2 ≡ b → binaryNature limit c type columns (natureIn F left) (natureIn F right) ≡ rangeNature F b c type columns left right
+        go true e = let two = eqb-true k 2 e in both-float two (sym same ∙ two)
+        go false e = let one = range-whole k y e in both-whole one (sym same ∙ one)
+
+  -- ---- one nature
+
+  pub alone-absent : (k : Nature) → natureNumber k ≡ 0 → unaryNature limit c type columns k ≡ ok absent
+  unfolding unaryNature
+  alone-absent k e = ap (unaryNature limit c type columns) (is-absent k e)
+
+  pub alone-lists : (k : Nature) → (natureNumber k ≡ 0 → ⊥) → isRangeNature (natureNumber k) ≡ false → unaryNature limit c type columns k ≡ listsAlone limit c type columns k
+  unfolding unaryNature
+  alone-lists absent p n = absurd (p refl)
+  alone-lists (wholeRange rs) p n = absurd (yes-no n)
+  alone-lists (floatRange rs) p n = absurd (yes-no n)
+  alone-lists (wholeLists ls) p n = refl
+  alone-lists (boolLists ls) p n = refl
+  alone-lists (floatLists ls) p n = refl
+
+-- Modulo alone has another rule for whole ranges than its end rule
+ruled-whole : (c : Component) (type : ℕ) → hasRule (familyOf c) ≡ true → wholeRule c type ≡ endRule whole c
+unfolding wholeRule
+ruled-whole C.Abs type h = refl
+ruled-whole C.Add type h = refl
+ruled-whole C.Subtract type h = refl
+ruled-whole C.Multiply type h = refl
+ruled-whole C.Divide type h = refl
+ruled-whole C.Modulo type h = absurd (yes-no (sym h))
+ruled-whole C.Log type h = absurd (yes-no (sym h))
+ruled-whole C.Power type h = absurd (yes-no (sym h))
+ruled-whole C.Negative type h = refl
+
+module _ (limit : ℕ) (c : Component) (type columns : ℕ) (has : hasRule (familyOf c) ≡ true) (F : Form) (s : List ℕ) where
+  alone-whole : byteAt F natureAt s ≡ 1 → unaryNature limit c type columns (natureIn F s) ≡ rangeNature F false c type columns s s
+  unfolding unaryNature rangeNature
+  alone-whole e = rw (nature-whole-range F s e, ruled-whole c type has, alone-is (endRule whole c) columns (entries F s asWhole))
+
+  alone-float : byteAt F natureAt s ≡ 2 → unaryNature limit c type columns (natureIn F s) ≡ rangeNature F true c type columns s s
+  unfolding unaryNature rangeNature
+  alone-float e = rw (nature-float-range F s e, alone-is (endRule float c) columns (entries F s asFloat))
+
+  pub alone-range : isRangeNature (byteAt F natureAt s) ≡ true
+      → unaryNature limit c type columns (natureIn F s) ≡ rangeNature F (eqb (byteAt F natureAt s) 2) c type columns s s
+  alone-range y = go (eqb k 2) refl
+    where
+      k : ℕ
+      k = byteAt F natureAt s
+
+      go : (b : Bool) → eqb k 2 ≡ b → unaryNature limit c type columns (natureIn F s) ≡ rangeNature F b c type columns s s
+      go true e = alone-float (eqb-true k 2 e)
+      go false e = alone-whole (range-whole k y e)

@@ -1,0 +1,74 @@
+-- `natures::propagate_unary_categorical_nature` meets its contract. Assumes nothing.
+use mathlib.Core.Path.{_≡_, sym, ap, _∙_}
+use denote.Ref.{now}
+use borrow.Author.Needs.{needs}
+use Rattle.base.specs.Form.{formOf, byteAt, natureAt}
+use Rattle.base.specs.Components.{familyOf}
+use Rattle.writer.specs.Written.{inWriting}
+use Rattle.natures.specs.Code.{hasRule}
+use Rattle.lending.proofs.Lending.{stands, alone, used, lists-room}
+use Rattle.natures.proofs.Listing.{Fine, fine, is-whole, fine-listed, alone-fails, bool-alone, alone-ruled}
+use Rattle.natures.proofs.propagate_unary_categorical_nature.Statement.{statement}
+use Rattle.natures.proofs.propagate_unary_categorical_nature.Tie as tie
+
+nature-of-requires : tie.Need-nature-of-requires
+nature-of-requires c κs = stands (c .before .before .before .before .pre .0 .0 .read)
+
+sizes-at-requires : tie.Need-sizes-at-requires
+sizes-at-requires c κs = stands (c .before .before .before .before .before .pre .0 .0 .read)
+
+returns : tie.Need-returns
+returns c =
+    let b = c .before .before .before .before .before .before .before .before in
+    let a = b .args in
+    let F = formOf (a .f) in
+    let e = alone-fails (F .categoryLimit) (a .c) (a .data-type) (a .columns) (b .pre .0 .0) (c .before .before .sizes-at .ensures .lists) (rw (c .before .before .before .nature-of .ensures) at (c .before .lists-code .ensures)) (c .if1 .taken) in
+    (ap (inWriting F) (sym e), tt)
+
+-- 19 and 20 have passed
+passes : (c : tie.Else1) → Fine (formOf (c .before .before .before .before .before .before .before .before .args .f)) (now (c .before .before .before .before .before .before .before .before .args .s))
+passes c = fine (c .before .before .before .before .before .before .before .before .pre .0 .0) (c .before .before .sizes-at .ensures .lists) (rw (c .before .before .before .nature-of .ensures) at (c .before .lists-code .ensures)) (c .if1 .left)
+
+whole : (c : tie.Else2) → byteAt (formOf (c .before .before .before .before .before .before .before .before .before .args .f)) natureAt (now (c .before .before .before .before .before .before .before .before .before .args .s)) ≡ 3
+whole c = is-whole (passes (c .before)) (λ e. c .if2 .left (c .before .before .before .before .nature-of .ensures ∙ e))
+
+returns-2 : tie.Need-returns-2
+returns-2 c =
+    let a = c .before .before .before .before .before .before .before .before .before .args in
+    let F = formOf (a .f) in
+    let e = bool-alone (F .categoryLimit) (a .c) (a .data-type) (a .columns) (passes (c .before)) (sym (c .before .before .before .before .nature-of .ensures) ∙ c .if2 .taken) in
+    (ap (inWriting F) (sym e), tt)
+
+lists-alone-requires : tie.Need-lists-alone-requires
+lists-alone-requires c κs =
+    let b = c .before .before .before .before .before .before .before .before .before .before .before .before .before .before in
+    let ready = b .pre .0 .1 in
+    let l = fine-listed (passes (c .before .before .before .before .before .before)) (whole (c .before .before .before .before .before)) in
+    ((l, ready .some-column, ready .within, b .pre .0 .2), used (alone (b .pre .0 .2) l) (b .pre .1))
+
+returns-3 : tie.Need-returns-3
+returns-3 c =
+    let b = c .before .before .before .before .before .before .before .before .before .before .before .before .before .before .before .before .before .before .before .before .before .before .before in
+    let a = b .args in
+    let F = formOf (a .f) in
+    let x = passes (c .before .before .before .before .before .before .before .before .before .before .before .before .before .before .before) in
+    let is = whole (c .before .before .before .before .before .before .before .before .before .before .before .before .before .before) in
+    let e = alone-ruled (F .categoryLimit) (a .c) (a .data-type) (a .columns) x is (ap hasRule (b .pre .0 .2)) in
+    (c .before .before .before .before .before .before .before .before .lists-alone .ensures .0 ∙ ap (inWriting F) (sym e), rw (lists-room (familyOf (a .c)) F (now (a .s)) (now (a .s)) (alone (b .pre .0 .2) (fine-listed x is))) (c .before .before .before .before .before .before .before .before .lists-alone .ensures .1))
+
+pub propagate-unary-categorical-nature-spec : {M : Type 1} → statement M
+propagate-unary-categorical-nature-spec =
+    tie.close
+    (tie.spec
+    nature-of-requires
+    sizes-at-requires
+    (λ c κs. search needs)
+    returns
+    returns-2
+    lists-alone-requires
+    (λ c. search needs)
+    (λ c. search needs)
+    (λ c. search needs)
+    (λ c. search needs)
+    (λ c. search needs)
+    returns-3)

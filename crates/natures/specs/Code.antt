@@ -1,0 +1,35 @@
+-- What the code that derives a nature asks for, and what it answers.
+use mathlib.Core.Path.{_≡_}
+use mathlib.Core.Bool.{Bool, true, false}
+use mathlib.Core.List.{List}
+use mathlib.Core.Logic.{_⊎_}
+use Prim.Native.Nat.{ℕ}
+use lib.Dec.{eqb}
+use Rattle.base.specs.Form.{Form, byteAt, natureAt, absentNature, isRangeNature, intType}
+use Rattle.base.specs.Components.{familyOf}
+use Rattle.base.specs.declared.Component.{Component}
+use Rattle.base.specs.declared.Family.{Family}
+use Rattle.base.specs.declared.Family.the-variants as Fam
+use Rattle.lending.specs.Code.{Read}
+
+-- Modulo, Log and Power of type Int: the rules for categories that Modulo and Power have are on this type
+abbrev pub isIntCopy : Family → ℕ → Bool
+isIntCopy Fam.Unary type = false
+isIntCopy Fam.Pair type = false
+isIntCopy Fam.Copy type = eqb type intType
+
+-- 15 has kept category pairs from these
+abbrev pub Reached : Form → Component → ℕ → List ℕ → Type 0
+Reached F c type right = (isIntCopy (familyOf c) type ≡ false) ⊎ (isRangeNature (byteAt F natureAt right) ≡ true)
+
+-- categories: neither absent nor a range
+pub record Lists (F : Form) (s : List ℕ) : Type 0 where
+  pub read : Read F s
+  pub present : eqb (byteAt F natureAt s) absentNature ≡ false
+  pub no-range : isRangeNature (byteAt F natureAt s) ≡ false
+
+-- there is code for the family's rules for whole categories
+abbrev pub hasRule : Family → Bool
+hasRule Fam.Unary = true
+hasRule Fam.Pair = true
+hasRule Fam.Copy = false

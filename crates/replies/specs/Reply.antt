@@ -1,0 +1,8 @@
+-- A reply of 64 bits, taken apart.
+use mathlib.Core.List.{List}
+use Prim.Native.Nat.{ℕ, _/_, _%_, _^_}
+use Rattle.calls.specs.Single.{Outcome, outcome}
+
+-- the code in the low 32 bits, the value in the high 32
+abbrev pub replied : ℕ → List ℕ → Outcome
+replied r bytes = outcome (r % 2 ^ 32) (r / 2 ^ 32) bytes

@@ -1,0 +1,229 @@
+-- The single call never refuses with 25, in any stored form (`never-25`): 15 keeps categories from Int Power, whose rule alone gives 25.
+-- Assumes nothing.
+use mathlib.Core.Path.{_≡_, refl, sym, ap, subst, _∙_}
+use mathlib.Core.Bool.{Bool, true, false, cond, not, _&&_}
+use mathlib.Core.List.{List, [], _∷_, _++_}
+use mathlib.Core.Option.{Option, none, some}
+use mathlib.Core.Logic.{⊎-elim}
+use Prim.Native.Nat.{ℕ}
+use lib.IntN.{ℤ}
+use lib.Ieee.{Float}
+use lib.ListN.{length}
+use lib.Dec.{T, eqb, leb}
+use borrow.Author.Tests.{eq-eqb}
+use Rattle.numbers.specs.Result.{Result, ok, refused, Check, check}
+use Rattle.numbers.specs.Kind.{Span, whole, float, eqZ}
+use Rattle.utilities.specs.Lists.{every}
+use Rattle.base.specs.Form.{Form}
+use Rattle.base.specs.Sheet.{Sheet, Nature, absent, wholeRange, floatRange, wholeLists, boolLists, floatLists}
+use Rattle.base.specs.Bounds.{wholeLowersPresent}
+use Rattle.base.specs.Checks.{read, sheetChecks}
+use Rattle.base.specs.Components.{componentOf, familyOf, isUnary}
+use Rattle.base.specs.declared.Component.{Component}
+use Rattle.base.specs.declared.Family.{Family}
+use Rattle.base.specs.declared.Family.the-variants as Fam
+use Rattle.base.specs.declared.Numbered.{Numbered}
+use Rattle.base.specs.declared.Numbered.the-variants as N
+use Rattle.ends.specs.Ends.{endRule}
+use Rattle.ends.specs.Ranges.{wholeRule}
+use Rattle.category_lists.specs.Categories.{ruled}
+use Rattle.shape.specs.Shape.{columnsOf, columnsAbsent, widest}
+use Rattle.orders.specs.Orders.{unaryChecks, pairChecks, boundChecks, copyChecks, lastChecks}
+use Rattle.orders.proofs.Orders.{bounds-every}
+use Rattle.calls.specs.Natures.{ruleFor, wholeListsOf, listChecks, bothListChecks, listsPair, listsAlone, wholeRangeWith, floatRangeWith, listsWith, binaryNature, unaryNature}
+use Rattle.calls.specs.Derive.{deriveUnary, derivePair, deriveCopy, deriveBy, derive}
+use Rattle.calls.specs.Single.{Outcome, stepSheet, step, delivery, singleOf, single}
+use Rattle.natures.specs.Code.{isIntCopy}
+use Rattle.step_laws.specs.Unreached.{isLists}
+use Rattle.steps.proofs.Passing.{Passing, pass-parts, bounds-int}
+use Rattle.step_laws.proofs.Clear.{Clear, value, other, then-clear, cond-clear, others, checked-clear, whole-clear, float-clear, rule-clear, whole-rule-clear, range-pair-clear, range-alone-clear, combined-clear, mapped-clear, limited-clear, ClearRule, no-rule, by-rule, category-clear}
+
+-- ---- natures
+
+ruled-clear :
+    {X : Type 0} (o : Option (ℤ → ℤ → Result ℤ)) (rest : (ℤ → ℤ → Result ℤ) → Result X) → ClearRule o
+    → ((rule : ℤ → ℤ → Result ℤ) → ((a b : ℤ) → Clear (rule a b)) → Clear (rest rule)) → Clear (ruled o rest)
+ruled-clear none rest no-rule f = other refl
+ruled-clear (some rule) rest (by-rule r) f = f rule r
+
+module _ (limit : ℕ) (c : Component) (type columns : ℕ) where
+  rule-for-clear : isIntCopy (familyOf c) type ≡ false → (l : Nature) → ClearRule (ruleFor c type l)
+  rule-for-clear e absent = no-rule
+  rule-for-clear e (wholeRange rs) = no-rule
+  rule-for-clear e (floatRange rs) = no-rule
+  rule-for-clear e (wholeLists ls) = category-clear c type e
+  rule-for-clear e (boolLists ls) = no-rule
+  rule-for-clear e (floatLists ls) = no-rule
+
+  pair-clear : isIntCopy (familyOf c) type ≡ false → (l r : Nature) → Clear (listsPair limit c type columns l r)
+  unfolding listsPair every
+  pair-clear e l r =
+      checked-clear (bothListChecks l r) refl
+      (λ p. ruled-clear (ruleFor c type l) _ (rule-for-clear e l) (λ rule f. limited-clear limit (combined-clear eqZ rule f columns (wholeListsOf l) (wholeListsOf r))))
+
+  alone-clear : isIntCopy (familyOf c) type ≡ false → (l : Nature) → Clear (listsAlone limit c type columns l)
+  unfolding listsAlone every
+  alone-clear e l =
+      checked-clear (listChecks l) refl
+      (λ p. ruled-clear (ruleFor c type l) _ (rule-for-clear e l) (λ rule f. limited-clear limit (mapped-clear eqZ rule f columns (wholeListsOf l))))
+
+  -- a pair of categories meets no rule of Modulo, Log and Power on Int
+  abbrev Apart : Nature → Type 0
+  Apart r = (isIntCopy (familyOf c) type && isLists r) ≡ false
+
+  apart-rule : (t : Bool) → (t && true) ≡ false → t ≡ false
+  apart-rule true e = e
+  apart-rule false e = e
+
+  lists-clear : (l r : Nature) → Apart r → Clear (listsWith limit c type columns l r)
+  unfolding listsWith
+  lists-clear l absent e = value
+  lists-clear l (wholeRange ys) e = value
+  lists-clear l (floatRange ys) e = value
+  lists-clear l (wholeLists ms) e = pair-clear (apart-rule (isIntCopy (familyOf c) type) e) l (wholeLists ms)
+  lists-clear l (boolLists ms) e = pair-clear (apart-rule (isIntCopy (familyOf c) type) e) l (boolLists ms)
+  lists-clear l (floatLists ms) e = pair-clear (apart-rule (isIntCopy (familyOf c) type) e) l (floatLists ms)
+
+  whole-with-clear : (xs : List (Span ℤ)) (r : Nature) → Clear (wholeRangeWith limit c type columns xs r)
+  unfolding wholeRangeWith
+  whole-with-clear xs absent = value
+  whole-with-clear xs (wholeRange ys) = then-clear _ (range-pair-clear (wholeRule c type) (whole-rule-clear c type) columns xs ys) (λ zs. value)
+  whole-with-clear xs (floatRange ys) = other refl
+  whole-with-clear xs (wholeLists ms) = value
+  whole-with-clear xs (boolLists ms) = value
+  whole-with-clear xs (floatLists ms) = value
+
+  float-with-clear : (xs : List (Span Float)) (r : Nature) → Clear (floatRangeWith limit c type columns xs r)
+  unfolding floatRangeWith
+  float-with-clear xs absent = value
+  float-with-clear xs (wholeRange ys) = other refl
+  float-with-clear xs (floatRange ys) = then-clear _ (range-pair-clear (endRule float c) (rule-clear float-clear c) columns xs ys) (λ zs. value)
+  float-with-clear xs (wholeLists ms) = value
+  float-with-clear xs (boolLists ms) = value
+  float-with-clear xs (floatLists ms) = value
+
+  binary-clear : (l r : Nature) → Apart r → Clear (binaryNature limit c type columns l r)
+  unfolding binaryNature
+  binary-clear absent r e = value
+  binary-clear (wholeRange xs) r e = whole-with-clear xs r
+  binary-clear (floatRange xs) r e = float-with-clear xs r
+  binary-clear (wholeLists ls) r e = lists-clear (wholeLists ls) r e
+  binary-clear (boolLists ls) r e = lists-clear (boolLists ls) r e
+  binary-clear (floatLists ls) r e = lists-clear (floatLists ls) r e
+
+  unary-clear : isIntCopy (familyOf c) type ≡ false → (l : Nature) → Clear (unaryNature limit c type columns l)
+  unfolding unaryNature
+  unary-clear e absent = value
+  unary-clear e (wholeRange xs) = then-clear _ (range-alone-clear (endRule whole c) (rule-clear whole-clear c) columns xs) (λ zs. value)
+  unary-clear e (floatRange xs) = then-clear _ (range-alone-clear (endRule float c) (rule-clear float-clear c) columns xs) (λ zs. value)
+  unary-clear e (wholeLists ls) = alone-clear e (wholeLists ls)
+  unary-clear e (boolLists ls) = alone-clear e (boolLists ls)
+  unary-clear e (floatLists ls) = alone-clear e (floatLists ls)
+
+-- ---- the orders of the checks
+
+others-then : (bs : List Check) (t : Bool) → others bs ≡ true → others (bs ++ (check 11 t ∷ [])) ≡ true
+unfolding every
+others-then [] t e = refl
+others-then (b ∷ bs) t e = go (not (eqb (b .number) 25)) e (others-then bs t)
+  where
+    go : (p : Bool) → cond p (others bs) false ≡ true → (others bs ≡ true → others (bs ++ (check 11 t ∷ [])) ≡ true)
+        → cond p (others (bs ++ (check 11 t ∷ []))) false ≡ true
+    go true e f = f e
+    go false e f = e
+
+-- `lower_int` gives no list of categories
+whole-no-lists : (k : Nature) → wholeLowersPresent k ≡ true → isLists k ≡ false
+unfolding wholeLowersPresent
+whole-no-lists absent e = refl
+whole-no-lists (wholeRange rs) e = refl
+whole-no-lists (floatRange rs) e = refl
+whole-no-lists (wholeLists ls) e = sym e
+whole-no-lists (boolLists ls) e = sym e
+whole-no-lists (floatLists ls) e = sym e
+
+pub and-no : (t u : Bool) → u ≡ false → (t && u) ≡ false
+and-no true u e = e
+and-no false u e = refl
+
+-- 15 keeps categories from Int Power
+bounds-apart : (l r : Sheet) (c : Component) → Passing (boundChecks c l r) → (isIntCopy (familyOf c) (l .fields .dataType) && isLists (r .nature)) ≡ false
+bounds-apart l r c p =
+    let int = isIntCopy (familyOf c) (l .fields .dataType) in
+    ⊎-elim
+    (λ (h : int ≡ false). rw h)
+    (λ (h : wholeLowersPresent (r .nature) ≡ true). and-no int (isLists (r .nature)) (whole-no-lists (r .nature) h))
+    (bounds-int l r c p)
+
+-- ---- the derivation
+
+module _ (limit : ℕ) (c : Component) where
+  derive-unary-clear : ((type : ℕ) → isIntCopy (familyOf c) type ≡ false) → (s : Sheet) → Clear (deriveUnary limit c s)
+  unfolding deriveUnary every
+  derive-unary-clear e s =
+      checked-clear (unaryChecks (s .fields)) refl
+      (λ p. then-clear _ (unary-clear limit c (s .fields .dataType) (columnsOf (s .fields)) (e (s .fields .dataType)) (s .nature)) (λ k. value))
+
+  derive-pair-clear : ((type : ℕ) → isIntCopy (familyOf c) type ≡ false) → (l r : Sheet) → Clear (derivePair limit c l r)
+  unfolding derivePair every
+  derive-pair-clear e l r =
+      let type = l .fields .dataType in
+      let apart : (isIntCopy (familyOf c) type && isLists (r .nature)) ≡ false = rw (e type) in
+      checked-clear (pairChecks l r) refl
+      (λ p. then-clear _ (binary-clear limit c type (widest (l .fields) (r .fields)) (l .nature) (r .nature) apart) (λ k. value))
+
+  derive-copy-clear : (l r : Sheet) → Clear (deriveCopy limit c l r)
+  unfolding deriveCopy every
+  derive-copy-clear l r =
+      let bounds = boundChecks c l r in
+      let absent = columnsAbsent (l .fields) in
+      checked-clear (copyChecks c l r) (others-then bounds absent (bounds-every l r (λ k. not (eqb k 25)) refl refl refl c))
+      (λ p.
+      then-clear _
+      (binary-clear limit c (l .fields .dataType) (columnsOf (l .fields)) (l .nature) (r .nature)
+      (bounds-apart l r c (pass-parts bounds (check 11 absent ∷ []) (p .1 .1 .1 .1) .0)))
+      (λ k. checked-clear (lastChecks l r) refl (λ q. value)))
+
+  derive-clear : (l r : Sheet) → Clear (derive limit c l r)
+  unfolding derive
+  derive-clear l r = go (familyOf c) refl
+    where
+      go : (f : Family) → familyOf c ≡ f → Clear (deriveBy limit c f l r)
+      go Fam.Unary e = derive-unary-clear (λ type. ap (λ (f : Family). isIntCopy f type) e) l
+      go Fam.Pair e = derive-pair-clear (λ type. ap (λ (f : Family). isIntCopy f type) e) l r
+      go Fam.Copy e = derive-copy-clear l r
+
+-- ---- the single call
+
+read-clear : (F : Form) (s : List ℕ) → Clear (read F s)
+unfolding read every
+read-clear F s = checked-clear (sheetChecks F s) refl (λ p. value)
+
+step-clear : (F : Form) (c : Component) (node : ℕ) (left right : List ℕ) → Clear (step F c node left right)
+unfolding step stepSheet
+step-clear F c node left right =
+    let limit = F .categoryLimit in
+    then-clear _
+    (then-clear _ (read-clear F left)
+    (λ l. cond-clear (isUnary (familyOf c)) (derive-clear limit c l l) (then-clear _ (read-clear F right) (λ r. derive-clear limit c l r))))
+    (λ s. value)
+
+chosen-code : (t : Bool) (a b : Outcome) → eqb (a .code) 25 ≡ false → eqb (b .code) 25 ≡ false → eqb (cond t a b .code) 25 ≡ false
+chosen-code true a b p q = p
+chosen-code false a b p q = q
+
+delivery-code : (g : Result (List ℕ)) (out : List ℕ) → Clear g → eqb (delivery g out .code) 25 ≡ false
+unfolding delivery
+delivery-code (ok vs) out value = chosen-code (leb (length vs) (length out)) _ _ refl refl
+delivery-code (refused k) out (other h) = h
+
+single-code : (F : Form) (number : Numbered) (node : ℕ) (left right out : List ℕ) → eqb (singleOf F number node left right out .code) 25 ≡ false
+unfolding singleOf
+single-code F N.Unlisted node left right out = refl
+single-code F (N.Is c) node left right out = delivery-code (step F c node left right) out (step-clear F c node left right)
+
+-- 25: no component, operands and output give it
+pub never-25 : (F : Form) (number node : ℕ) (left right out : List ℕ) → single F number node left right out .code ≡ 25 → ⊥
+unfolding single
+never-25 F number node left right out e =
+    subst T (sym (eq-eqb (single F number node left right out .code) 25 e) ∙ single-code F (componentOf number) node left right out) tt

@@ -1,0 +1,3 @@
+pub mod Unreached
+pub mod Computing
+pub mod Shelf
