@@ -2,24 +2,21 @@
 
 use crate::draw;
 use crate::guard::{Expected, Guard, Request, FILLER, SINGLES};
+use crate::judge;
 use crate::tally::Tally;
-use oracle_list::form::{self, hex, Call};
+use oracle_list::form::{self, hex, Call, POOL};
 use oracle_list::generate;
 use oracle_list::random::Random;
 use oracle_list::text;
 
-fn oracle(call: &Request) -> Expected {
-    let answer = oracle_original::answer(
+fn judged(call: &Request) -> Expected {
+    judge::answer(
         call.component,
         call.node,
         call.left,
         call.right,
         call.out_len,
-    );
-    Expected {
-        code: answer.code,
-        bytes: answer.bytes,
-    }
+    )
 }
 
 fn request(call: &Call) -> Request<'_> {
@@ -35,7 +32,7 @@ fn request(call: &Call) -> Request<'_> {
 fn show(name: &str, fault: &str, call: &Request, wanted: &Expected) -> String {
     let (left, right) = (hex(call.left), hex(call.right));
     format!(
-        "{name}: {fault}; call {} {} {left} {right} {}; oracle {} {}",
+        "{name}: {fault}; call {} {} {left} {right} {}; wanted {} {}",
         call.component,
         call.node,
         call.out_len,
@@ -44,16 +41,17 @@ fn show(name: &str, fault: &str, call: &Request, wanted: &Expected) -> String {
     )
 }
 
-/// Generated calls, answered by the proved library, the port and the oracle.
+/// Generated calls, answered by the proved library, the port and the oracle;
+/// Pool's by the first two.
 pub fn generated(seed: u64, count: usize) -> Tally {
     let mut random = Random::new(seed);
     let (mut guard, mut tally) = (Guard::default(), Tally::default());
     for _ in 0..count {
         let mut drawn = draw::call(&mut random);
-        let mut wanted = oracle(&request(&drawn));
+        let mut wanted = judged(&request(&drawn));
         drawn.out_len = draw::out_len(&mut random, wanted.bytes.len());
         if drawn.out_len < wanted.bytes.len() {
-            wanted = oracle(&request(&drawn));
+            wanted = judged(&request(&drawn));
         }
         hold(&mut guard, &mut tally, &request(&drawn), &wanted);
     }
@@ -61,11 +59,18 @@ pub fn generated(seed: u64, count: usize) -> Tally {
 }
 
 fn hold(guard: &mut Guard, tally: &mut Tally, call: &Request, wanted: &Expected) {
-    tally.count(wanted.code);
+    count(tally, call.component, wanted);
     for (name, answer) in SINGLES {
         if let Err(fault) = guard.check(answer, call, wanted) {
             tally.differ(|| show(name, &fault, call, wanted));
         }
+    }
+}
+
+fn count(tally: &mut Tally, component: u32, wanted: &Expected) {
+    tally.count(wanted.code);
+    if component == POOL {
+        tally.count_pool(wanted.code, &wanted.bytes);
     }
 }
 
@@ -84,7 +89,7 @@ pub fn stored(text: &str) -> Result<Tally, String> {
 
 const LENGTHS: [usize; 7] = [0, 79, 80, 1283, 1284, 1285, 70_000];
 const OUTPUTS: [usize; 6] = [0, 79, 80, 1284, 1285, 70_000];
-const COMPONENTS: [u32; 12] = [0, 1, 2, 3, 4, 5, 6, 7, 8, 9, 200, u32::MAX];
+const COMPONENTS: [u32; 14] = [0, 1, 2, 3, 4, 5, 6, 7, 8, 9, POOL, 11, 200, u32::MAX];
 
 /// Any bytes in any argument.
 pub fn bad(seed: u64) -> Tally {
@@ -104,7 +109,7 @@ pub fn bad(seed: u64) -> Tally {
                         right: &right,
                         out_len,
                     };
-                    hold(&mut guard, &mut tally, &call, &oracle(&call));
+                    hold(&mut guard, &mut tally, &call, &judged(&call));
                 }
             }
         }
@@ -182,8 +187,8 @@ fn hold_shared(
         right: &buffer[right..right + right_len],
         out_len,
     };
-    let wanted = oracle(&call);
-    tally.count(wanted.code);
+    let wanted = judged(&call);
+    count(tally, component, &wanted);
     for (name, answer) in SINGLES {
         if let Err(fault) = guard.check_shared(answer, &call, buffer, parts, &wanted) {
             tally.differ(|| show(name, &fault, &call, &wanted));
@@ -194,15 +199,39 @@ fn hold_shared(
 #[cfg(test)]
 mod tests {
     use super::*;
+    use oracle_list::cases;
+    use oracle_list::form::{Answer, Mark};
+    use oracle_list::stats::reachable;
 
     #[test]
     fn generated_calls_agree() {
-        let tally = generated(1, 4000);
+        let tally = generated(1, 8000);
         assert_eq!(tally.differences, 0, "{tally}");
+        for code in reachable(POOL) {
+            assert!(tally.of_pool(*code) > 0, "no {code} of Pool: {tally}");
+        }
+        assert!(tally.pooled().iter().all(|count| *count > 20), "{tally}");
         assert!(
             tally.of(0) > 400 && tally.of(3) > 100 && tally.of(4) > 100 && tally.of(27) > 20,
             "{tally}"
         );
+    }
+
+    /// Pool's named cases, which no oracle answers.
+    #[test]
+    fn pool_cases_answer_as_expected() {
+        for case in cases::pool() {
+            for (name, answer) in SINGLES {
+                let call = &case.call;
+                let mut bytes = vec![FILLER; call.out_len];
+                let (code, length) = answer(POOL, call.node, &call.left, &call.right, &mut bytes);
+                assert!(bytes[length as usize..].iter().all(|byte| *byte == FILLER));
+                bytes.truncate(length as usize);
+                let mark = Mark::Added;
+                let checked = case.check(&Answer { code, bytes, mark });
+                assert_eq!(checked, Ok(()), "{name}");
+            }
+        }
     }
 
     #[test]
@@ -225,7 +254,7 @@ mod tests {
             right: text::bytes("W[10,20]"),
             out_len: 120,
         };
-        let wanted = oracle(&request(&call));
+        let wanted = judged(&request(&call));
         let check = |answer| Guard::default().check(answer, &request(&call), &wanted);
         assert!(check(plain_port::propagate_property).is_ok());
         assert!(check(|c, n, l, r, out| (

@@ -1,14 +1,16 @@
 //! Demand 3 tried on accepted plans: every row's exact results keep to what the
-//! sheets state. Sheets are read by the oracle's reader, after the call.
+//! sheets state. A row has a number for each leaf column and a side for each Pool
+//! step. Sheets are read by the oracle's reader, after the call.
 
 mod leaves;
 
 use crate::exact::{Exact, TooLong};
 use crate::plans::{self, is_unary, Draft, Step, MOST_NODES, PLANS, SLOT};
 use crate::tally::Tally;
-use oracle_list::form::hex;
+use oracle_list::form::{hex, POOL};
 use oracle_list::random::Random;
 use oracle_list::sheet::{Nature, Sheet};
+use oracle_list::stats::NAMES;
 use std::fmt;
 
 /// Rows with a longer result are given up, and counted.
@@ -16,15 +18,26 @@ const MOST_BITS: u64 = 4096;
 const ROWS: usize = 8;
 const INT: u8 = 4;
 const LOG: u32 = 7;
-pub const NAMES: [&str; 9] = [
-    "Abs", "Add", "Subtract", "Multiply", "Divide", "Modulo", "Log", "Power", "Negative",
-];
+
+/// The operand that a Pool step takes in a row, in all its columns.
+#[derive(Clone, Copy, Debug, PartialEq, Eq)]
+pub enum Side {
+    Left,
+    Right,
+}
+
+/// A row: the leaves' numbers by column, and a side for each step, which Pool
+/// alone reads.
+pub struct Row {
+    pub numbers: Vec<Vec<Exact>>,
+    pub sides: Vec<Side>,
+}
 
 /// What was tried.
 #[derive(Default)]
 pub struct Counts {
     pub tally: Tally,
-    pub steps: [usize; 9],
+    pub steps: [usize; NAMES.len()],
     pub rows: usize,
     pub given_up: usize,
     pub results: usize,
@@ -33,6 +46,10 @@ pub struct Counts {
     /// Nodes of steps by what they state: absent, range, categories.
     pub natures: [usize; 3],
     pub beyond: usize,
+    /// Pool steps in rows, by side; and how many of them had another result on
+    /// the other side.
+    pub sides: [usize; 2],
+    pub apart: usize,
     /// Log on operands that meet the premises, refused as it has to be.
     pub log_refused: usize,
 }
@@ -53,6 +70,12 @@ impl fmt::Display for Counts {
         writeln!(
             f,
             "steps' sheets: {ranges} ranges, {lists} categories, {absent} absent"
+        )?;
+        let [left, right] = self.sides;
+        writeln!(
+            f,
+            "Pool steps in rows: {left} took left, {right} right; {} had another result on the other side",
+            self.apart
         )?;
         write!(
             f,
@@ -81,18 +104,30 @@ pub fn generated(seed: u64, count: usize) -> Counts {
             }] += 1;
         }
         for turn in 0..ROWS {
-            let row: Vec<Vec<Exact>> = sheets[..draft.leaves.len()]
-                .iter()
-                .map(|leaf| leaves::numbers(&mut random, leaf, turn))
-                .collect();
+            let leaves = sheets[..draft.leaves.len()].iter();
+            let numbers = leaves.map(|leaf| leaves::numbers(&mut random, leaf, turn));
+            let row = Row {
+                numbers: numbers.collect(),
+                sides: sides(&mut random, draft.steps.len(), turn),
+            };
             try_row(&draft, &sheets, row, &mut counts);
         }
     }
     counts
 }
 
-fn try_row(draft: &Draft, sheets: &[Sheet], row: Vec<Vec<Exact>>, counts: &mut Counts) {
-    let far = row.iter().flatten().any(|number| number.bits() > 64);
+/// Turn 0 takes left everywhere, turn 1 right; the others choose step by step.
+fn sides(random: &mut Random, steps: usize, turn: usize) -> Vec<Side> {
+    let side = |random: &mut Random| match turn {
+        0 => Side::Left,
+        1 => Side::Right,
+        _ => random.pick(&[Side::Left, Side::Right]),
+    };
+    (0..steps).map(|_| side(random)).collect()
+}
+
+fn try_row(draft: &Draft, sheets: &[Sheet], row: Row, counts: &mut Counts) {
+    let far = row.numbers.iter().flatten().any(|n| n.bits() > 64);
     match violation(&draft.steps, sheets, row, counts) {
         Err(TooLong) => counts.given_up += 1,
         Ok(fault) => {
@@ -204,20 +239,20 @@ fn without_zero(divisor: &Sheet, column: usize) -> bool {
     }
 }
 
-/// What is false for this row, if anything. `row` has the leaves' columns.
+/// What is false for this row, if anything.
 pub fn violation(
     steps: &[Step],
     sheets: &[Sheet],
-    row: Vec<Vec<Exact>>,
+    row: Row,
     counts: &mut Counts,
 ) -> Result<Option<String>, TooLong> {
-    let mut results = row;
-    for step in steps {
+    let mut results = row.numbers;
+    for (step, side) in steps.iter().zip(row.sides) {
         let node = results.len();
         let columns = sheets[node].columns.unwrap_or(0) as usize;
         let mut of_node = Vec::with_capacity(columns);
         for column in 0..columns {
-            match result(step, &results, column)? {
+            match result(step, side, &results, column)? {
                 Some(value) => of_node.push(value),
                 None => {
                     return Ok(Some(format!(
@@ -225,6 +260,10 @@ pub fn violation(
                     )))
                 }
             }
+        }
+        if step.component == POOL {
+            counts.sides[side as usize] += 1;
+            counts.apart += usize::from(results[step.left] != results[step.right]);
         }
         results.push(of_node);
     }
@@ -243,10 +282,17 @@ pub fn violation(
 }
 
 /// A step's result in a column; an operand without that column leaves none.
-fn result(step: &Step, results: &[Vec<Exact>], column: usize) -> Result<Option<Exact>, TooLong> {
+fn result(
+    step: &Step,
+    side: Side,
+    results: &[Vec<Exact>],
+    column: usize,
+) -> Result<Option<Exact>, TooLong> {
     let left = stated(&results[step.left], column);
     let right = stated(&results[step.right], column);
     match left.zip(right) {
+        Some((left, _)) if step.component == POOL && side == Side::Left => Ok(Some(left.clone())),
+        Some((_, right)) if step.component == POOL => Ok(Some(right.clone())),
         Some((left, right)) => exact(step.component, left, right),
         None => Ok(None),
     }
@@ -308,7 +354,7 @@ fn draw(random: &mut Random, counts: &mut Counts) -> Draft {
     };
     let mut misses = 0;
     while draft.nodes() < nodes && misses < 12 {
-        let component = random.between(1, 9) as u32;
+        let component = plans::component(random, &plans::ALL);
         let found = (0..TRIES).find_map(|_| nodes_so_far.try_step(random, component, counts));
         match found {
             Some(step) => draft.steps.push(step),
@@ -382,10 +428,12 @@ mod tests {
             counts.ends > 5000 && counts.lists > 1000 && counts.beyond > 500,
             "{counts}"
         );
+        let [left, right] = counts.sides;
+        assert!(left.min(right).min(counts.apart) > 1000, "{counts}");
     }
 
-    /// Whether a plan of two leaves and one step holds for a row.
-    fn holds(component: u32, left: &str, right: &str, row: [i128; 2]) -> (bool, bool) {
+    /// The sheets of an accepted plan of two leaves and one step, and the step.
+    fn walked(component: u32, left: &str, right: &str) -> (Vec<Sheet>, [Step; 1]) {
         let leaves = [text::sheet(left), text::sheet(right)];
         let step = Step {
             component,
@@ -399,13 +447,55 @@ mod tests {
             plain_port::propagate_properties(&draft.encode(), &mut work),
             (0, 3)
         );
-        let sheets: Vec<Sheet> = work
-            .chunks(SLOT)
-            .map(|slot| sheet_at(slot).unwrap())
-            .collect();
-        let row = row.map(|value| vec![Exact::Small(value)]).to_vec();
-        let fault = violation(&draft.steps, &sheets, row, &mut Counts::default());
-        (premises(2, &draft.steps, &sheets), fault == Ok(None))
+        let sheets = work.chunks(SLOT).map(|slot| sheet_at(slot).unwrap());
+        (sheets.collect(), [step])
+    }
+
+    /// Whether such a plan meets the premises, and whether it holds for a row.
+    fn holds(component: u32, left: &str, right: &str, row: [i128; 2]) -> (bool, bool) {
+        let (sheets, steps) = walked(component, left, right);
+        let row = Row {
+            numbers: row.map(|value| vec![Exact::Small(value)]).to_vec(),
+            sides: vec![Side::Left],
+        };
+        let fault = violation(&steps, &sheets, row, &mut Counts::default());
+        (premises(2, &steps, &sheets), fault == Ok(None))
+    }
+
+    /// A row of two columns: whether it keeps to the sheets as they are, and to
+    /// the pooled sheet narrowed to left's.
+    fn pooled(side: Side) -> (bool, bool) {
+        let columns = "W[0,3] columns=2";
+        let (mut sheets, steps) = walked(POOL, columns, "W[10,12] columns=2");
+        let keeps = |sheets: &[Sheet]| {
+            let small = |numbers: [i128; 2]| numbers.map(Exact::Small).to_vec();
+            let row = Row {
+                numbers: vec![small([1, 2]), small([10, 12])],
+                sides: vec![side],
+            };
+            let counts = &mut Counts::default();
+            violation(&steps, sheets, row, counts) == Ok(None)
+        };
+        let wide = keeps(&sheets);
+        sheets[2].nature = text::sheet(columns).nature;
+        (wide, keeps(&sheets))
+    }
+
+    /// The side is read, and it holds for every column.
+    #[test]
+    fn a_pool_step_takes_its_side() {
+        assert_eq!(pooled(Side::Left), (true, true));
+        assert_eq!(pooled(Side::Right), (true, false));
+        let small = |number| vec![Exact::Small(number), Exact::Small(-number)];
+        let step = Step {
+            component: POOL,
+            left: 0,
+            right: 1,
+        };
+        let results = [small(1), small(7)];
+        let row = |side| [0, 1].map(|column| result(&step, side, &results, column).unwrap());
+        assert_eq!(row(Side::Left).map(Option::unwrap).to_vec(), small(1));
+        assert_eq!(row(Side::Right).map(Option::unwrap).to_vec(), small(7));
     }
 
     /// Outside the premises there are counterexamples, and they are seen.

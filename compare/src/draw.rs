@@ -1,16 +1,22 @@
-//! Calls for the comparison: the oracle's generator, and a damaged share.
+//! Calls for the comparison: the oracle's generator, with a share of Pool and a
+//! damaged share.
 
-use oracle_list::form::Call;
+use oracle_list::form::{Call, POOL};
 use oracle_list::generate;
 use oracle_list::random::Random;
 use oracle_list::sheet::LONGEST;
 
 /// Calls in a hundred whose operands are damaged after they were drawn.
 const DAMAGED: usize = 25;
+/// Calls in a hundred that are Pool's.
+const POOLED: usize = 12;
 
 /// The caller sets `out_len`.
 pub fn call(random: &mut Random) -> Call {
-    let mut call = generate::call(random);
+    let mut call = match random.percent(POOLED) {
+        true => generate::call_of(random, POOL),
+        false => generate::call(random),
+    };
     if random.percent(DAMAGED) {
         let side = if random.percent(50) {
             &mut call.left

@@ -9,7 +9,7 @@ pub const FILLER: u8 = 0xa5;
 
 pub type Single = fn(u32, u32, &[u8], &[u8], &mut [u8]) -> Reply;
 
-/// The two that are held against the oracle.
+/// The two that are held against the judge.
 pub const SINGLES: [(&str, Single); 2] = [
     ("proved", proved::propagate_property),
     ("port", plain_port::propagate_property),
@@ -24,7 +24,7 @@ pub struct Request<'a> {
     pub out_len: usize,
 }
 
-/// What the oracle says of a call.
+/// What the judge says of a call.
 pub struct Expected {
     pub code: u32,
     pub bytes: Vec<u8>,

@@ -6,6 +6,7 @@ pub mod contained;
 pub mod draw;
 pub mod exact;
 pub mod guard;
+pub mod judge;
 pub mod plans;
 pub mod proved;
 pub mod stored;

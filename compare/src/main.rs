@@ -5,14 +5,15 @@ use comparison::{calls, contained, plans, stored};
 use std::process::exit;
 
 const HELP: &str = "\
-compare calls --seed S --count N   generated calls: proved library, port and oracle
+compare calls --seed S --count N   generated calls: proved library, port and oracle (Pool: the first two)
 compare list FILE                  a stored list of calls: proved library and port
 compare bad [--seed S]             any bytes in any argument, overlapping operands
-compare plans --seed S --count N   generated plans: plan calls against the oracle, step by step
+compare plans --seed S --count N   generated plans: plan calls against the oracle, step by step (Pool: the port)
 compare store-plans --seed S       writes the stored list of plans to standard output
 compare list-plans FILE            a stored list of plans, replayed by the plan calls
 compare contained --seed S --count N
-                                   demand 3 on accepted plans: exact results of rows keep to the sheets
+                                   demand 3 on accepted plans: exact results of rows keep to the sheets,
+                                   whichever side each Pool step takes
 Exit 1 if there is a difference, 2 if the command or its file cannot be used.";
 
 fn main() {

@@ -1,12 +1,15 @@
-//! Plans: drawn, answered by walking the oracle step by step, and compared.
+//! Plans: drawn, answered by walking the oracle step by step, and compared. A
+//! step of Pool, which the oracle has not, is taken by the port.
 
 use crate::draw;
+use crate::judge;
 use crate::tally::Tally;
 use crate::Reply;
-use oracle_list::form::hex;
+use oracle_list::form::{hex, POOL};
 use oracle_list::generate;
 use oracle_list::random::Random;
 use oracle_list::sheet::{Sheet, HEAD, LONGEST, MOST_CATEGORIES, MOST_GROUPS, MOST_LISTS};
+use std::ops::RangeInclusive;
 
 pub const SLOT: usize = LONGEST;
 pub const MOST_NODES: usize = 32;
@@ -15,11 +18,22 @@ pub const NO_NODE: u32 = 65_535;
 pub const STEP_CODES: [u32; 21] = [
     5, 6, 7, 8, 9, 10, 11, 12, 13, 14, 15, 16, 17, 18, 19, 20, 21, 22, 23, 24, 26,
 ];
+/// What a step of Pool may be refused with.
+pub const POOL_CODES: [u32; 14] = [5, 6, 7, 8, 11, 12, 14, 17, 18, 19, 20, 21, 24, 26];
 pub const LEAF_CODES: [u32; 3] = [3, 4, 5];
+
+/// The components that a step is drawn from.
+pub type Components = RangeInclusive<u32>;
+pub const ALL: Components = 1..=POOL;
+pub const POOL_ALONE: Components = POOL..=POOL;
+
+pub fn component(random: &mut Random, among: &Components) -> u32 {
+    random.between(i64::from(*among.start()), i64::from(*among.end())) as u32
+}
 
 pub type Plan = fn(&[u8], &mut [u8]) -> Reply;
 
-/// The plan calls that are held against the oracle.
+/// The plan calls that are held against the walk.
 pub const PLANS: &[(&str, Plan)] = &[
     ("port", plain_port::propagate_properties),
     ("proved", crate::proved::propagate_properties),
@@ -32,7 +46,7 @@ pub struct Step {
     pub right: usize,
 }
 
-/// A plan with its leaves, and what the oracle derives for its nodes.
+/// A plan with its leaves, and what the judge derives for its nodes.
 #[derive(Clone, Default)]
 pub struct Draft {
     pub leaves: Vec<Vec<u8>>,
@@ -48,7 +62,7 @@ pub struct Request {
     pub work_len: usize,
 }
 
-/// The oracle's reply, and the sheets of the steps that were derived.
+/// The reply, and the sheets of the steps that were derived.
 pub struct Expected {
     pub reply: Reply,
     pub derived: Vec<Vec<u8>>,
@@ -95,7 +109,7 @@ impl Draft {
     fn answer(&self, step: Step) -> (u32, Vec<u8>) {
         let (left, right) = (&self.sheets[step.left], &self.sheets[step.right]);
         let node = self.nodes() as u32;
-        let answer = oracle_original::answer(step.component, node, left, right, SLOT);
+        let answer = judge::answer(step.component, node, left, right, SLOT);
         (answer.code, answer.bytes)
     }
 
@@ -115,10 +129,10 @@ impl Draft {
         }
     }
 
-    /// Adds a step that the oracle accepts, if one is found soon.
+    /// Adds a step that the judge accepts, if one is found soon.
     pub fn push_accepted(&mut self, random: &mut Random) -> bool {
         for _ in 0..24 {
-            let component = random.between(1, 9) as u32;
+            let component = component(random, &ALL);
             let step = self.any_step(random, component);
             if let (0, bytes) = self.answer(step) {
                 self.steps.push(step);
@@ -129,10 +143,18 @@ impl Draft {
         false
     }
 
-    /// Adds well-formed steps without asking the oracle.
+    /// Whether a step of Pool was given a nature of this number.
+    pub fn pools_to(&self, nature: u8) -> bool {
+        let derived = self.steps.iter().zip(&self.sheets[self.leaves.len()..]);
+        derived
+            .into_iter()
+            .any(|(step, sheet)| step.component == POOL && sheet[6] == nature)
+    }
+
+    /// Adds well-formed steps without asking the judge.
     fn push_unasked(&mut self, random: &mut Random, count: usize) {
         for _ in 0..count.min(MOST_NODES - self.nodes()) {
-            let component = random.between(1, 9) as u32;
+            let component = component(random, &ALL);
             let step = self.any_step(random, component);
             self.steps.push(step);
         }
@@ -142,7 +164,7 @@ impl Draft {
 /// Two sheets that suit a component, or one.
 fn operands(random: &mut Random) -> Vec<Vec<u8>> {
     loop {
-        let component = random.between(1, 9) as u32;
+        let component = component(random, &ALL);
         let call = generate::call_for(random, component, 0);
         let mut sheets = vec![call.left];
         if !is_unary(component) {
@@ -171,10 +193,11 @@ pub fn accepted(random: &mut Random, nodes: usize) -> Draft {
     draft
 }
 
-/// A plan whose step is refused with a code: its first step that can be, or one
-/// behind accepted steps. Steps behind it are never reached.
-pub fn refused_step(random: &mut Random, code: u32, late: bool) -> Draft {
-    let (operands, steps) = refused_operands(random, code);
+/// A plan whose step of one of the components is refused with a code: its first
+/// step that can be, or one behind accepted steps. Steps behind it are never
+/// reached.
+pub fn refused_step(random: &mut Random, among: &Components, code: u32, late: bool) -> Draft {
+    let (operands, steps) = refused_operands(random, among, code);
     let mut draft = if late {
         accepted(random, 5)
     } else {
@@ -206,14 +229,18 @@ pub fn refused_step(random: &mut Random, code: u32, late: bool) -> Draft {
 }
 
 /// Leaves and steps over them, the last of which is refused with the code.
-fn refused_operands(random: &mut Random, code: u32) -> (Vec<Vec<u8>>, Vec<Step>) {
+fn refused_operands(
+    random: &mut Random,
+    among: &Components,
+    code: u32,
+) -> (Vec<Vec<u8>>, Vec<Step>) {
     if code == 5 {
-        return refused_result(random);
+        return refused_result(random, among);
     }
     loop {
-        let component = random.between(1, 9) as u32;
+        let component = component(random, among);
         let call = generate::call_for(random, component, code);
-        let answer = oracle_original::answer(component, 0, &call.left, &call.right, SLOT);
+        let answer = judge::answer(component, 0, &call.left, &call.right, SLOT);
         if answer.code != code {
             continue;
         }
@@ -233,23 +260,20 @@ fn step(component: u32, left: usize, right: usize) -> Step {
 }
 
 /// A derived sheet with a crossed or an infinite end, and a step that reads it.
-fn refused_result(random: &mut Random) -> (Vec<Vec<u8>>, Vec<Step>) {
+fn refused_result(random: &mut Random, among: &Components) -> (Vec<Vec<u8>>, Vec<Step>) {
     loop {
-        let component = random.pick(&[2, 3, 3, 4, 5]);
-        let call = generate::call_for(random, component, 0);
-        let answer = oracle_original::answer(component, 0, &call.left, &call.right, SLOT);
+        let maker = random.pick(&[2, 3, 3, 4, 5]);
+        let call = generate::call_for(random, maker, 0);
+        let answer = judge::answer(maker, 0, &call.left, &call.right, SLOT);
         if answer.code != 0 || Sheet::decode(&answer.bytes) != Err(5) {
             continue;
         }
-        let next = random.between(1, 9) as u32;
+        let next = component(random, among);
         let next = match is_unary(next) {
             true => step(next, 2, 2),
             false => random.pick(&[step(next, 2, 0), step(next, 1, 2), step(next, 2, 2)]),
         };
-        return (
-            vec![call.left, call.right],
-            vec![step(component, 0, 1), next],
-        );
+        return (vec![call.left, call.right], vec![step(maker, 0, 1), next]);
     }
 }
 
@@ -295,7 +319,7 @@ pub fn malform(random: &mut Random, draft: &Draft) -> Vec<u8> {
         6 if steps > 0 => set(
             &mut plan,
             last,
-            random.pick(&[0, 200, 1 << 8, 1 << 31, u32::MAX]),
+            random.pick(&[0, 11, 200, 1 << 8, 1 << 31, u32::MAX]),
         ),
         7 if steps > 0 => plan[4 + 4 * steps] = leaves as u8,
         8 if steps > 0 => plan[last + 4 * steps + 2] = random.pick(&[nodes as u8 - 1, 255]),
@@ -324,7 +348,7 @@ fn leaf_sheet(slot: &[u8]) -> Result<&[u8], u32> {
     Sheet::decode(sheet).map(|_| sheet)
 }
 
-/// The plan by document 01's words, or nothing if it is malformed.
+/// The plan by the documents' words, or nothing if it is malformed.
 pub fn parse(plan: &[u8]) -> Option<(usize, Vec<Step>)> {
     let (sizes, rest) = (plan.get(..4)?, plan.get(4..)?);
     let nodes = u16::from_le_bytes([sizes[0], sizes[1]]) as usize;
@@ -352,12 +376,12 @@ pub fn parse(plan: &[u8]) -> Option<(usize, Vec<Step>)> {
     let fits = steps.iter().enumerate().all(|(i, step)| {
         let earlier = step.left < leaves + i && step.right < leaves + i;
         let alike = !is_unary(step.component) || step.left == step.right;
-        matches!(step.component, 1..=9) && earlier && alike
+        ALL.contains(&step.component) && earlier && alike
     });
     fits.then_some((leaves, steps))
 }
 
-/// 1, 27, the leaves' 3 to 5, then each step through the oracle.
+/// 1, 27, the leaves' 3 to 5, then each step through the judge.
 pub fn walk(plan: &[u8], work: &[u8]) -> Expected {
     let refused = |code, node, derived| Expected {
         reply: (code, node),
@@ -380,7 +404,7 @@ pub fn walk(plan: &[u8], work: &[u8]) -> Expected {
     for step in &steps {
         let node = sheets.len() as u32;
         let (left, right) = (&sheets[step.left], &sheets[step.right]);
-        let answer = oracle_original::answer(step.component, node, left, right, SLOT);
+        let answer = judge::answer(step.component, node, left, right, SLOT);
         if answer.code != 0 {
             return refused(answer.code, node, sheets.split_off(leaves));
         }
@@ -411,12 +435,26 @@ fn after(work: &[u8], leaves: usize, derived: &[Vec<u8>]) -> Vec<u8> {
     after
 }
 
+/// Counts the steps of Pool that were taken, and one that was refused.
+fn count_pools(tally: &mut Tally, leaves: usize, steps: &[Step], wanted: &Expected) {
+    let (code, node) = wanted.reply;
+    let pools = (0..steps.len()).filter(|index| steps[*index].component == POOL);
+    for index in pools {
+        match wanted.derived.get(index) {
+            Some(sheet) => tally.count_pool(0, sheet),
+            None if leaves + index == node as usize => tally.count_pool(code, &[]),
+            None => (),
+        }
+    }
+}
+
 /// Holds every plan call against what is expected; margins around both buffers.
 pub fn hold(tally: &mut Tally, request: &Request, filler: u8, wanted: &Expected) {
     const MARGIN: usize = 64;
     const AROUND: u8 = 0x3c;
     tally.count(wanted.reply.0);
-    let leaves = parse(&request.plan).map_or(0, |(leaves, _)| leaves);
+    let (leaves, steps) = parse(&request.plan).unwrap_or_default();
+    count_pools(tally, leaves, &steps, wanted);
     let work = lay_out(request, filler);
     let guarded = |bytes: &[u8]| [&[AROUND; MARGIN], bytes, &[AROUND; MARGIN]].concat();
     let plan_after = guarded(&request.plan);
@@ -431,7 +469,7 @@ pub fn hold(tally: &mut Tally, request: &Request, filler: u8, wanted: &Expected)
             tally.differ(|| {
                 let leaves: Vec<String> = request.leaves.iter().map(|sheet| hex(sheet)).collect();
                 format!(
-                    "{name}: reply {reply:?}, oracle {:?}; plan {} work {} leaves {}",
+                    "{name}: reply {reply:?}, wanted {:?}; plan {} work {} leaves {}",
                     wanted.reply,
                     hex(&request.plan),
                     request.work_len,
@@ -448,9 +486,13 @@ pub fn request(random: &mut Random) -> Request {
     let late = random.percent(50);
     let draft = match random.below(10) {
         0..=2 => accepted(random, nodes),
-        3..=5 => {
+        3..=4 => {
             let code = random.pick(&STEP_CODES);
-            refused_step(random, code, late)
+            refused_step(random, &ALL, code, late)
+        }
+        5 => {
+            let code = random.pick(&POOL_CODES);
+            refused_step(random, &POOL_ALONE, code, late)
         }
         6 => {
             let code = random.pick(&LEAF_CODES);
@@ -502,16 +544,26 @@ mod tests {
         for code in [0, 1, 3, 4, 5, 27].iter().chain(&STEP_CODES) {
             assert!(tally.of(*code) > 0, "no {code}: {tally}");
         }
+        for code in POOL_CODES {
+            assert!(tally.of_pool(code) > 0, "no {code} of Pool: {tally}");
+        }
+        assert!(tally.pooled().iter().all(|count| *count > 20), "{tally}");
     }
 
     #[test]
     fn a_refused_step_is_refused_as_asked() {
         let mut random = Random::new(9);
-        for code in STEP_CODES {
-            for late in [false, true] {
-                let request = refused_step(&mut random, code, late).request();
+        for (among, codes) in [(ALL, &STEP_CODES[..]), (POOL_ALONE, &POOL_CODES)] {
+            for (code, late) in codes
+                .iter()
+                .flat_map(|code| [(*code, false), (*code, true)])
+            {
+                let request = refused_step(&mut random, &among, code, late).request();
                 let wanted = walk(&request.plan, &lay_out(&request, 0));
                 assert_eq!(wanted.reply.0, code);
+                let mut tally = Tally::default();
+                hold(&mut tally, &request, 0, &wanted);
+                assert!(among == ALL || tally.of_pool(code) == 1, "{code}: {tally}");
             }
         }
     }

@@ -1,7 +1,10 @@
 //! The stored list of plans: chosen by a seed, written as text, replayed.
 
 use crate::guard::FILLER;
-use crate::plans::{self, Draft, Expected, Request, LEAF_CODES, MOST_NODES, SLOT, STEP_CODES};
+use crate::plans::{
+    self, Components, Draft, Expected, Request, ALL, LEAF_CODES, MOST_NODES, POOL_ALONE,
+    POOL_CODES, SLOT, STEP_CODES,
+};
 use crate::tally::Tally;
 use oracle_list::form::{hex, is_comment};
 use oracle_list::random::Random;
@@ -11,7 +14,8 @@ use std::fmt::Write;
 const LONGEST_LINE: usize = 9000;
 
 const FORM: &str = "\
-# Plan calls with the answers of the original text, walked step by step.
+# Plan calls with the answers of the original text, walked step by step; a step of component 10, Pool, which the
+# original has not, is the plain port's.
 # One a line, six fields separated by a blank: plan work_len leaves code value result
 #   plan      the plan's bytes in lower-case hex, - for none
 #   work_len  the length of the work buffer, in bytes
@@ -30,24 +34,15 @@ pub fn text(seed: u64) -> String {
     let mut random = Random::new(seed);
     let mut out = format!("{FORM}# Made by `compare store-plans --seed {seed}`.\n");
     accepted(&mut random, &mut out);
-    for late in [false, true] {
-        let place = if late {
-            "behind accepted steps"
-        } else {
-            "at the first step that can be"
-        };
-        for code in STEP_CODES {
-            let _ = writeln!(out, "# refused with {code} {place}");
-            for _ in 0..4 {
-                push(
-                    &mut random,
-                    &mut out,
-                    |random| plans::refused_step(random, code, late).request(),
-                    |c| c == code,
-                );
-            }
-        }
-    }
+    refused(&mut random, &mut out, ("refused", &ALL), &STEP_CODES, 4);
+    pooled(&mut random, &mut out);
+    refused(
+        &mut random,
+        &mut out,
+        ("Pool refused", &POOL_ALONE),
+        &POOL_CODES,
+        2,
+    );
     for code in LEAF_CODES {
         let _ = writeln!(out, "# a leaf refused with {code}");
         for _ in 0..10 {
@@ -91,6 +86,52 @@ fn accepted(random: &mut Random, out: &mut String) {
     }
 }
 
+/// Refused at a step of one of the components, so many times with each code: at
+/// the first step that can be, and behind accepted steps.
+fn refused(
+    random: &mut Random,
+    out: &mut String,
+    (what, among): (&str, &Components),
+    codes: &[u32],
+    times: usize,
+) {
+    let places = ["at the first step that can be", "behind accepted steps"];
+    for (late, place) in [false, true].into_iter().zip(places) {
+        for code in codes.iter().copied() {
+            let _ = writeln!(out, "# {what} with {code} {place}");
+            for _ in 0..times {
+                let draw =
+                    |random: &mut Random| plans::refused_step(random, among, code, late).request();
+                push(random, out, draw, |c| c == code);
+            }
+        }
+    }
+}
+
+/// Accepted with a step of Pool to each nature that it can give.
+fn pooled(random: &mut Random, out: &mut String) {
+    let natures = [
+        "absent",
+        "whole range",
+        "float range",
+        "whole lists",
+        "Bool lists",
+    ];
+    for (nature, name) in (0..).zip(natures) {
+        let _ = writeln!(out, "# accepted, Pool to {name}");
+        for _ in 0..4 {
+            let draw = |random: &mut Random| loop {
+                let nodes = random.between(3, 9) as usize;
+                let draft = plans::accepted(random, nodes);
+                if draft.pools_to(nature) {
+                    return draft.request();
+                }
+            };
+            push(random, out, draw, |code| code == 0);
+        }
+    }
+}
+
 /// Malformed plans (also over buffers that are too short: 1 comes first), and short buffers.
 fn unfit(random: &mut Random, out: &mut String) {
     out.push_str("# malformed\n");
@@ -100,9 +141,6 @@ fn unfit(random: &mut Random, out: &mut String) {
             let draft = plans::accepted(random, size);
             let mut request = draft.request();
             request.plan = plans::malform(random, &draft);
-            while names_ten(&request.plan) {
-                request.plan = plans::malform(random, &draft);
-            }
             if turn % 5 == 0 {
                 shorten(random, &mut request);
             }
@@ -120,14 +158,6 @@ fn unfit(random: &mut Random, out: &mut String) {
         };
         push(random, out, draw, |code| code == 27);
     }
-}
-
-/// Component 10 is to get a meaning; a list made today stays away.
-fn names_ten(plan: &[u8]) -> bool {
-    let words = plan.get(4..).unwrap_or(&[]).chunks_exact(4);
-    words
-        .map(|word| u32::from_le_bytes(word.try_into().expect("four bytes")))
-        .any(|word| word == 10)
 }
 
 /// Only leaves that still fit are laid out.
@@ -267,9 +297,13 @@ mod tests {
     fn the_stored_list_is_replayed() {
         let tally = replay(&std::fs::read_to_string(STORED).expect("vectors/plans.txt")).unwrap();
         assert_eq!(tally.differences, 0, "{tally}");
-        assert!(tally.total() >= 300, "{tally}");
+        assert!(tally.total() >= 400, "{tally}");
         for code in [0, 1, 3, 4, 5, 27].iter().chain(&crate::plans::STEP_CODES) {
             assert!(tally.of(*code) > 0, "no {code}: {tally}");
         }
+        for code in crate::plans::POOL_CODES {
+            assert!(tally.of_pool(code) >= 4, "Pool's {code}: {tally}");
+        }
+        assert!(tally.pooled().iter().all(|count| *count >= 4), "{tally}");
     }
 }

@@ -1,4 +1,4 @@
-//! Category lists: first occurrences, mapped or combined.
+//! Category lists: first occurrences, mapped, combined or united.
 
 use crate::form::*;
 use crate::sheet::{Refusal, Sheet};
@@ -6,6 +6,8 @@ use crate::sheet::{Refusal, Sheet};
 /// Lists as they would be written, at most 128 values. Once more would be
 /// needed it is `over`, and only the arithmetic goes on.
 pub struct Store {
+    /// The nature's number.
+    pub kind: u8,
     pub lists: usize,
     pub count: usize,
     pub numbers: [u8; MOST_CATEGORIES],
@@ -41,8 +43,9 @@ impl List {
 }
 
 impl Store {
-    fn new() -> Store {
+    fn new(kind: u8) -> Store {
         Store {
+            kind,
             lists: 0,
             count: 0,
             numbers: [0; MOST_CATEGORIES],
@@ -81,6 +84,43 @@ impl Store {
         Ok(())
     }
 
+    /// Appends left's values and then right's, first occurrences alone.
+    fn push_union(&mut self, list: usize, left: &List, right: &List) {
+        let start = self.count;
+        for value in left.as_slice().iter().chain(right.as_slice()) {
+            if !self.values[start..self.count].contains(value) {
+                self.push(list, *value);
+            }
+        }
+    }
+
+    /// Appends, column by column, what `append` makes of the two lists that meet
+    /// there: one list goes with every column, other counts stay, and the shorter
+    /// count ends it.
+    fn push_columns(
+        &mut self,
+        left: &Sheet,
+        right: &Sheet,
+        columns: usize,
+        append: impl Fn(&mut Store, usize, &List, &List) -> Result<(), Refusal>,
+    ) -> Result<(), Refusal> {
+        if left.lists == 1 && right.lists == 1 {
+            // Every column's lists are the same.
+            let (left, right) = (List::read(left.list(0)), List::read(right.list(0)));
+            append(self, 0, &left, &right)?;
+            self.repeat_first(columns);
+            return Ok(());
+        }
+        self.lists = spread(left.lists, columns).min(spread(right.lists, columns));
+        let entry = |sheet: &Sheet, column: usize| if sheet.lists == 1 { 0 } else { column };
+        for column in 0..self.lists {
+            let left = List::read(left.list(entry(left, column)));
+            let right = List::read(right.list(entry(right, column)));
+            append(self, column, &left, &right)?;
+        }
+        Ok(())
+    }
+
     fn push_mapped(&mut self, number: usize, component: u32, list: &List) -> Result<(), Refusal> {
         for value in list.as_slice() {
             let mapped = match component {
@@ -103,7 +143,8 @@ impl Store {
         self.lists = lists;
     }
 
-    fn finish(self) -> Result<Store, Refusal> {
+    /// 26.
+    pub fn finish(self) -> Result<Store, Refusal> {
         if self.over {
             return Err(26);
         }
@@ -131,6 +172,16 @@ fn standard(sheet: &Sheet) -> Result<(), Refusal> {
     Ok(())
 }
 
+/// 19 and 20 of left, then of right, then 21.
+fn alike(left: &Sheet, right: &Sheet) -> Result<(), Refusal> {
+    standard(left)?;
+    standard(right)?;
+    if left.nature != right.nature {
+        return Err(21);
+    }
+    Ok(())
+}
+
 /// One list repeats per output column, other counts stay.
 fn spread(lists: usize, columns: usize) -> usize {
     if lists == 1 {
@@ -146,7 +197,7 @@ pub fn unary(component: u32, left: &Sheet, columns: usize) -> Result<Store, Refu
     if left.nature == BOOL_LISTS {
         return Err(22);
     }
-    let mut store = Store::new();
+    let mut store = Store::new(WHOLE_LISTS);
     for number in 0..left.lists {
         store.push_mapped(number, component, &List::read(left.list(number)))?;
     }
@@ -164,29 +215,26 @@ pub fn binary(
     right: &Sheet,
     columns: usize,
 ) -> Result<Store, Refusal> {
-    standard(left)?;
-    standard(right)?;
-    if left.nature != right.nature {
-        return Err(21);
-    }
+    alike(left, right)?;
     // Only Float Power comes here of 6 to 8, and it has no rule.
     if left.nature == BOOL_LISTS || component == POWER {
         return Err(22);
     }
-    let mut store = Store::new();
-    if left.lists == 1 && right.lists == 1 {
-        // Every column's product is the same.
-        let (left, right) = (List::read(left.list(0)), List::read(right.list(0)));
-        store.push_product(0, component, &left, &right)?;
-        store.repeat_first(columns);
-        return store.finish();
-    }
-    store.lists = spread(left.lists, columns).min(spread(right.lists, columns));
-    let entry = |sheet: &Sheet, column: usize| if sheet.lists == 1 { 0 } else { column };
-    for column in 0..store.lists {
-        let left = List::read(left.list(entry(left, column)));
-        let right = List::read(right.list(entry(right, column)));
-        store.push_product(column, component, &left, &right)?;
-    }
+    let mut store = Store::new(WHOLE_LISTS);
+    store.push_columns(left, right, columns, |store, column, left, right| {
+        store.push_product(column, component, left, right)
+    })?;
     store.finish()
+}
+
+/// Pool: 19 to 21. The lists may still be too long, since the rows' 24 comes
+/// before 26: the caller finishes them.
+pub fn pooled(left: &Sheet, right: &Sheet, columns: usize) -> Result<Store, Refusal> {
+    alike(left, right)?;
+    let mut store = Store::new(left.nature);
+    store.push_columns(left, right, columns, |store, column, left, right| {
+        store.push_union(column, left, right);
+        Ok(())
+    })?;
+    Ok(store)
 }

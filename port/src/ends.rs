@@ -85,7 +85,7 @@ pub fn unary<T: Number>(component: u32, (lower, upper): Ends<T>) -> Result<Ends<
     Ok((Some(new_lower), Some(new_upper)))
 }
 
-/// Ends of Add, Subtract, Multiply and Divide.
+/// Ends of Add, Subtract, Multiply, Divide and Pool.
 pub fn binary<T: Number>(
     component: u32,
     left: Ends<T>,
@@ -95,6 +95,7 @@ pub fn binary<T: Number>(
         ADD => end_by_end(left, right, T::add),
         SUBTRACT => end_by_end(left, right, T::sub),
         MULTIPLY => multiply(left, right),
+        POOL => pool(left, right),
         _ => divide(left, right),
     }
 }
@@ -136,6 +137,14 @@ fn divide<T: Number>(left: Ends<T>, right: Ends<T>) -> Result<Ends<T>, Refusal> 
         (false, true) => Ok((Some(lesser(a.div(d)?, c.div(d)?)), None)),
         _ => Ok((None, None)),
     }
+}
+
+/// The lesser lower and the greater upper, left's bits on a tie: `greater` gives
+/// its second argument there, which tells the zeros apart.
+fn pool<T: Number>(left: Ends<T>, right: Ends<T>) -> Result<Ends<T>, Refusal> {
+    let lower = left.0.zip(right.0).map(|(l, r)| lesser(l, r));
+    let upper = left.1.zip(right.1).map(|(l, r)| greater(r, l));
+    Ok((lower, upper))
 }
 
 /// Among equals the least is the first and the greatest the last.

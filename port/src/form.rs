@@ -1,4 +1,4 @@
-//! Limits, places and numbers of document 01: known here alone.
+//! Limits, places and numbers of documents 01 and 02: known here alone.
 
 pub const MOST_GROUPS: usize = 4;
 pub const MOST_LISTS: usize = 16;
@@ -57,6 +57,7 @@ pub const MODULO: u32 = 6;
 pub const LOG: u32 = 7;
 pub const POWER: u32 = 8;
 pub const NEGATIVE: u32 = 9;
+pub const POOL: u32 = 10;
 
 /// The node that a plan call names with 1 and 27.
 pub const NO_NODE: u32 = 65_535;

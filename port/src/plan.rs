@@ -41,7 +41,7 @@ impl<'a> Plan<'a> {
         };
         let permitted = |node: usize| {
             let step = plan.step(node);
-            (ABS..=NEGATIVE).contains(&step.component)
+            (ABS..=POOL).contains(&step.component)
                 && step.left < node
                 && step.right < node
                 && (!is_unary(step.component) || step.left == step.right)

@@ -40,6 +40,20 @@ impl<'a> Fields<'a> {
             groups: left.groups,
         }
     }
+
+    /// What 2 to 5 and Pool have alike; the rest is left's.
+    fn joined(node: u32, left: &Sheet<'a>, right: &Sheet<'a>, columns: i64) -> Fields<'a> {
+        Fields {
+            nullity: left.nullity || right.nullity,
+            releasable: left.releasable && right.releasable,
+            c_stability: left.c_stability.max(right.c_stability),
+            aggregator: 0,
+            dimensionality: left.dimensionality.max(right.dimensionality),
+            node: i64::from(node),
+            groups: groups(left, right),
+            ..Fields::copied(left, columns)
+        }
+    }
 }
 
 /// Abs and Negative: 6 and 11.
@@ -67,21 +81,47 @@ pub fn arithmetic<'a>(
     if left.data_type != right.data_type {
         return Err(14);
     }
+    let joined = Fields::joined(node, left, right, columns);
+    let divisor = component == DIVIDE && divisor_sets_nullity(right);
     Ok(Fields {
-        nullity: left.nullity
-            || right.nullity
-            || component == DIVIDE && divisor_sets_nullity(right),
-        releasable: left.releasable && right.releasable,
+        nullity: joined.nullity || divisor,
         not_empty: left.not_empty && right.not_empty,
         ordered: true,
-        c_stability: left.c_stability.max(right.c_stability),
-        aggregator: 0,
         rows,
-        dimensionality: left.dimensionality.max(right.dimensionality),
-        node: i64::from(node),
-        groups: groups(left, right),
-        ..Fields::copied(left, columns)
+        ..joined
     })
+}
+
+/// Pool: 6, 7, 8, 11, 12 by any difference, 14. The rows follow the nature.
+pub fn pooled<'a>(node: u32, left: &Sheet<'a>, right: &Sheet<'a>) -> Result<Fields<'a>, Refusal> {
+    marks(left)?;
+    marks(right)?;
+    if groups_clash(left, right) {
+        return Err(8);
+    }
+    let columns = left.columns.ok_or(11u32)?;
+    if right.columns.ok_or(11u32)? != columns {
+        return Err(12);
+    }
+    if left.data_type != right.data_type {
+        return Err(14);
+    }
+    Ok(Fields {
+        not_empty: left.not_empty || right.not_empty,
+        ordered: false,
+        rows: None,
+        dataset: None,
+        sample: None,
+        ..Fields::joined(node, left, right, columns)
+    })
+}
+
+/// The rows of both operands together: 24 outside 64 signed bits.
+pub fn rows_sum(left: &Sheet, right: &Sheet) -> Result<Option<i64>, Refusal> {
+    match left.rows.zip(right.rows) {
+        Some((l, r)) => l.checked_add(r).map(Some).ok_or(24),
+        None => Ok(None),
+    }
 }
 
 /// Modulo, Log, Power: 6, 7, 14, 15, 16, 11; their 8 comes after the nature.

@@ -18,6 +18,7 @@ pub fn derive(
     match component {
         ABS | NEGATIVE => unary(component, left, out),
         ADD..=POWER => binary(component, node, left, right, out),
+        POOL => pool(node, left, right, out),
         _ => Err(2),
     }
 }
@@ -78,6 +79,25 @@ fn binary(
     }
     let entries = ranges(component, &left, &right, &fields)?;
     finish(&Nature::Range(&entries), out)
+}
+
+/// Pool: the rows' 24 comes behind 17 to 21 and before 26, under every nature.
+fn pool(node: u32, left: &[u8], right: &[u8], out: &mut [u8]) -> Result<usize, Refusal> {
+    let left = Sheet::read(left)?;
+    let right = Sheet::read(right)?;
+    let mut fields = shape::pooled(node, &left, &right)?;
+    if left.has_lists() && right.has_lists() {
+        let store = categories::pooled(&left, &right, fields.columns as usize)?;
+        fields.rows = shape::rows_sum(&left, &right)?;
+        return write::sheet(&fields, &Nature::Lists(&store.finish()?), out);
+    }
+    if !left.has_range() || !right.has_range() {
+        fields.rows = shape::rows_sum(&left, &right)?;
+        return write::sheet(&fields, &Nature::Absent, out);
+    }
+    let entries = ranges(POOL, &left, &right, &fields)?;
+    fields.rows = shape::rows_sum(&left, &right)?;
+    write::sheet(&fields, &Nature::Range(&entries), out)
 }
 
 /// 17, 18, then 23 and 24 column by column.

@@ -24,7 +24,7 @@ impl Nature<'_> {
         match self {
             Nature::Absent => ABSENT,
             Nature::Range(entries) => entries.nature,
-            Nature::Lists(_) => WHOLE_LISTS,
+            Nature::Lists(store) => store.kind,
         }
     }
 

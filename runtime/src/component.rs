@@ -1,8 +1,8 @@
-//! The nine components.
+//! The ten components.
 
 use std::fmt;
 
-/// A component, by document 01's number.
+/// A component, by the number that documents 01 and 02 give it.
 #[derive(Clone, Copy, Debug, PartialEq, Eq, Hash)]
 pub enum Component {
     /// Magnitude.
@@ -23,11 +23,13 @@ pub enum Component {
     Power = 8,
     /// Change of sign.
     Negative = 9,
+    /// Two logs in one: the rows of left and then those of right.
+    Pool = 10,
 }
 
 impl Component {
     /// All of them, by number.
-    pub const ALL: [Component; 9] = [
+    pub const ALL: [Component; 10] = [
         Component::Abs,
         Component::Add,
         Component::Subtract,
@@ -37,9 +39,13 @@ impl Component {
         Component::Log,
         Component::Power,
         Component::Negative,
+        Component::Pool,
     ];
 
-    /// Document 01's number.
+    /// The numbers that there are, as a cause says it.
+    pub(crate) const PERMITTED: &'static str = "permitted 1 to 10";
+
+    /// Its number.
     pub fn number(self) -> u32 {
         self as u32
     }
@@ -49,6 +55,7 @@ impl Component {
     /// ```
     /// use gate_runtime::Component;
     /// assert_eq!(Component::from_number(3), Some(Component::Subtract));
+    /// assert_eq!(Component::from_number(10), Some(Component::Pool));
     /// assert_eq!(Component::from_number(0), None);
     /// ```
     pub fn from_number(number: u32) -> Option<Component> {
@@ -67,6 +74,7 @@ impl Component {
             Component::Log => "log",
             Component::Power => "power",
             Component::Negative => "negative",
+            Component::Pool => "pool",
         }
     }
 

@@ -133,7 +133,7 @@ fn step_at(bytes: &[u8], count: usize, place: usize, node: usize) -> Result<Step
     let operands = number_at(bytes, ARRAYS_AT + (count + place) * NUMBER, NUMBER);
     let (left, right) = ((operands % RIGHT_UNIT) as usize, (operands / RIGHT_UNIT) as usize);
     let Some(component) = Component::from_number(number) else {
-        return malformed(format!("node {node}: component {number}, permitted 1 to 9"));
+        return malformed(format!("node {node}: component {number}, {}", Component::PERMITTED));
     };
     for operand in [left, right] {
         if operand >= node {

@@ -1,4 +1,4 @@
-//! The refusals of document 01.
+//! The refusals of document 01, with what document 02 adds to them.
 
 use std::error::Error;
 use std::fmt;
@@ -8,7 +8,7 @@ use std::fmt;
 pub enum Refusal {
     /// 1: The plan is malformed.
     MalformedPlan = 1,
-    /// 2: The component is not 1 to 9.
+    /// 2: The component is not 1 to 10.
     NoSuchComponent = 2,
     /// 3: A sheet's size exceeds its limit, or its length isn't what its sizes call for.
     SheetSize = 3,
@@ -28,7 +28,7 @@ pub enum Refusal {
     StabilitiesDiffer = 10,
     /// 11: A column count is absent.
     NoColumnCount = 11,
-    /// 12: The column counts differ and neither is 1.
+    /// 12: The column counts differ and neither is 1; for pool, they differ.
     ColumnsDiffer = 12,
     /// 13: The row counts clash.
     RowsClash = 13,
@@ -68,8 +68,8 @@ type Row = (Refusal, &'static str, &'static str);
 /// By number.
 const TABLE: [Row; 27] = [
     (Refusal::MalformedPlan, "The plan is malformed.",
-     "The bytes of a plan have another length than its sizes call for, there are no nodes or more than 32, no leaves or more leaves than nodes, a component is not 1 to 9, an operand is not an earlier node, or abs or negative names two different operands. The command `gate cards` writes plans that never meet it."),
-    (Refusal::NoSuchComponent, "The component is not 1 to 9.",
+     "The bytes of a plan have another length than its sizes call for, there are no nodes or more than 32, no leaves or more leaves than nodes, a component is not 1 to 10, an operand is not an earlier node, or abs or negative names two different operands. The command `gate cards` writes plans that never meet it."),
+    (Refusal::NoSuchComponent, "The component is not 1 to 10.",
      "Only a single call can meet it; in a plan the same fault is refusal 1."),
     (Refusal::SheetSize, "A sheet's size exceeds its limit, or its length isn't what its sizes call for.",
      "A sheet holds at most 4 groups, 16 ranges or category lists, and 128 categories over all its lists."),
@@ -84,17 +84,17 @@ const TABLE: [Row; 27] = [
     (Refusal::GroupsDiffer, "Neither operand is releasable and their groups differ.",
      "Two private operands must have the same groups, in the same order."),
     (Refusal::DatasetsDiffer, "Neither operand is releasable and their dataset ids differ.",
-     "Two private operands must come from the same dataset. An absent dataset id differs from every present one."),
+     "Two private operands must come from the same dataset. An absent dataset id differs from every present one. Pool does not compare them, and its result has none."),
     (Refusal::StabilitiesDiffer, "Neither operand is releasable and their c-stabilities differ.",
-     "Two private operands must have the same c-stability."),
+     "Two private operands must have the same c-stability. Pool does not compare them and takes the greater."),
     (Refusal::NoColumnCount, "A column count is absent.",
      "State the columns of the leaf. Modulo, log and power read only left's count."),
-    (Refusal::ColumnsDiffer, "The column counts differ and neither is 1.",
-     "Two operands must have as many columns as each other, or one of them a single column, which then goes with each of the other's."),
+    (Refusal::ColumnsDiffer, "The column counts differ and neither is 1; for pool, they differ.",
+     "Two operands must have as many columns as each other, or one of them a single column, which then goes with each of the other's. Pool puts rows under rows: there a single column goes with no other count."),
     (Refusal::RowsClash, "The row counts clash.",
-     "Rows must be equal and present on both sides, or both operands come from one dataset, or one operand is releasable with 1 row and goes with every row of the other."),
+     "Rows must be equal and present on both sides, or both operands come from one dataset, or one operand is releasable with 1 row and goes with every row of the other. Pool takes any row counts and adds them (24)."),
     (Refusal::DataTypes, "The data types don't suit the component.",
-     "Add, subtract, multiply and divide need equal types; modulo and power need both int or both float; log needs a left operand of type float; abs and negative take any."),
+     "Add, subtract, multiply, divide and pool need equal types; modulo and power need both int or both float; log needs a left operand of type float; abs and negative take any."),
     (Refusal::BoundsUnsuited, "The bounds that log, modulo or power read are not ranges of the wanted kind, or one is absent.",
      "Modulo reads right's lower ends, power of type int right's lower ends, log both ends of the base (right) and the lower ends of the data (left). These must be ranges with the ends present; modulo and power of type int want whole ranges; log takes no whole data under a whole base."),
     (Refusal::BoundsCondition, "The bounds that log, modulo or power read break the component's condition.",
@@ -104,17 +104,17 @@ const TABLE: [Row; 27] = [
     (Refusal::BoundListCount, "A range list has neither one entry nor one per output column.",
      "Write one range for all columns, or one for each. The output of modulo, log and power has left's columns."),
     (Refusal::FloatCategories, "Float categories are to be combined or mapped.",
-     "No component computes with float categories. Use a float range, or whole categories."),
+     "No component computes with float categories, and pool does not unite them. Use a float range, or whole categories."),
     (Refusal::NoCategoryLists, "A category operand has no lists.",
      "Write at least one category list."),
     (Refusal::CategoryKindsDiffer, "The category kinds differ.",
      "Both operands need categories of one kind."),
     (Refusal::NoCategoryRule, "The component has no rule for this category kind.",
-     "No component computes with bool categories, and power of type float with no categories at all."),
+     "No component computes with bool categories (pool unites them), and power of type float with no categories at all."),
     (Refusal::DivideMayMeetZero, "Divide may meet zero.",
      "It is said of a divisor whose lower end is absent while its upper end is absent or is 0 or above, and of one whose upper end is absent while its lower end is 0 or below. State the missing end, or a divisor on one side of zero."),
     (Refusal::WholeOverflow, "Whole-number arithmetic leaves 64 signed bits, or a category divides by zero.",
-     "Narrow the ranges, or take the zero out of the divisor's categories. Abs adds the two ends of its range, and that sum must fit too."),
+     "Narrow the ranges, or take the zero out of the divisor's categories. Abs adds the two ends of its range, and that sum must fit too. Pool computes no end: it adds the two row counts, whatever the natures are. State smaller row counts there, or none."),
     (Refusal::PowerCategoryOverflow, "A category under power overflows.",
      "No call can meet it: power of type int wants a range on its right (15), and power of type float has no category rule (22). The number is kept because document 01 lists it."),
     (Refusal::TooManyCategories, "The result holds over 128 categories, counted as they would be written.",
@@ -134,7 +134,7 @@ impl Refusal {
         TABLE.iter().map(|row| row.0)
     }
 
-    /// Document 01's number.
+    /// Its number.
     pub fn code(self) -> u32 {
         self as u32
     }

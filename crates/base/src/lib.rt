@@ -68,6 +68,7 @@ pub enum Component {
     Log,
     Power,
     Negative,
+    Pool,
 }
 
 // The components by the sheets that they read, the order of their checks and the fields that they derive.
@@ -78,6 +79,8 @@ pub enum Family {
     Pair,
     // Modulo, Log and Power, which copy left but for a few fields.
     Copy,
+    // Pool, which stacks two arrays.
+    Pool,
 }
 
 // What a number names: a component, or none.
@@ -105,6 +108,8 @@ impl Component {
 
     pub const NEGATIVE: u32 = 9;
 
+    pub const POOL: u32 = 10;
+
     pub fn from_number(n: u32) -> Numbered
         ensures { λ r. ⌜ r ≡ componentOf n ⌝ }
     {
@@ -118,6 +123,7 @@ impl Component {
             Component::LOG => Numbered::Is(Component::Log),
             Component::POWER => Numbered::Is(Component::Power),
             Component::NEGATIVE => Numbered::Is(Component::Negative),
+            Component::POOL => Numbered::Is(Component::Pool),
             _ => Numbered::Unlisted,
         }
     }
@@ -135,6 +141,7 @@ impl Component {
             Component::Log => Self::LOG,
             Component::Power => Self::POWER,
             Component::Negative => Self::NEGATIVE,
+            Component::Pool => Self::POOL,
         }
     }
 
@@ -151,6 +158,7 @@ impl Component {
             Component::Log => Family::Copy,
             Component::Power => Family::Copy,
             Component::Negative => Family::Unary,
+            Component::Pool => Family::Pool,
         }
     }
 }
@@ -164,6 +172,7 @@ impl Family {
             Family::Unary => true,
             Family::Pair => false,
             Family::Copy => false,
+            Family::Pool => false,
         }
     }
 }

@@ -3,7 +3,7 @@
 // The plan is malformed.
 pub const MALFORMED: u32 = 1;
 
-// The component is not 1 to 9.
+// The component is not 1 to 10.
 pub const NO_COMPONENT: u32 = 2;
 
 // A size over its limit, or a length that the sizes do not call for.

@@ -6,10 +6,11 @@ use Rattle.base.specs.Components.{familyOf}
 use Rattle.base.specs.declared.Component.{Component}
 use Rattle.base.specs.declared.Family.{Family}
 use Rattle.base.specs.declared.Family.the-variants as Fam
-use Rattle.shape.specs.Shape.{columnsOf, widest}
-use Rattle.calls.specs.Natures.{unaryNature, binaryNature}
-use Rattle.orders.specs.Orders.{unaryChecks, pairChecks, copyChecks, lastChecks}
-use Rattle.shape.specs.Fields.{pairSheet, copySheet, unarySheet}
+use Rattle.shape.specs.Shape.{columnsOf, widest, rowsSum}
+use Rattle.category_lists.specs.Categories.{keptTo}
+use Rattle.calls.specs.Natures.{unaryNature, binaryNature, poolNature}
+use Rattle.orders.specs.Orders.{unaryChecks, pairChecks, copyChecks, lastChecks, poolChecks}
+use Rattle.shape.specs.Fields.{pairSheet, copySheet, unarySheet, poolSheet}
 
 -- `limit` is how many categories a result may hold
 module _ (limit : ℕ) (c : Component) where
@@ -31,10 +32,18 @@ module _ (limit : ℕ) (c : Component) where
       checked (copyChecks c l r)
       (andThen (binaryNature limit c (l .fields .dataType) (columnsOf (l .fields)) (l .nature) (r .nature)) (λ k. checked (lastChecks l r) (ok (copySheet l r k))))
 
+  -- Pool. 02, S-1: "It checks 6, 7, 8, 11, 12 .., 14 .., then 17 to 21, 24, 26"
+  unfoldable pub derivePool : Sheet → Sheet → Result Sheet
+  derivePool l r =
+      checked (poolChecks l r)
+      (andThen (poolNature c (l .fields .dataType) (widest (l .fields) (r .fields)) (l .nature) (r .nature))
+      (λ k. andThen (rowsSum (l .fields .rows) (r .fields .rows)) (λ rows. andThen (keptTo limit k) (λ k′. ok (poolSheet rows l r k′)))))
+
   abbrev pub deriveBy : Family → Sheet → Sheet → Result Sheet
   deriveBy Fam.Unary l r = deriveUnary l
   deriveBy Fam.Pair l r = derivePair l r
   deriveBy Fam.Copy l r = deriveCopy l r
+  deriveBy Fam.Pool l r = derivePool l r
 
   unfoldable pub derive : Sheet → Sheet → Result Sheet
   derive l r = deriveBy (familyOf c) l r

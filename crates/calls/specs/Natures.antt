@@ -1,4 +1,4 @@
--- `propagate_unary_nature` and `propagate_binary_nature`: 17 to 26, and the nature derived.
+-- `propagate_unary_nature`, `propagate_binary_nature` and Pool's: 17 to 26, and the nature derived.
 use mathlib.Core.Bool.{Bool, not}
 use mathlib.Core.List.{List, [], _∷_, _++_}
 use mathlib.Core.Option.{Option, none}
@@ -14,7 +14,7 @@ use Rattle.base.specs.Encode.{natureNumber, entryCount}
 use Rattle.base.specs.declared.Component.{Component}
 use Rattle.ends.specs.Ends.{endRule}
 use Rattle.ends.specs.Ranges.{wholeRule, rangePair, rangeAlone}
-use Rattle.category_lists.specs.Categories.{categoryRule, ruled, combined, mapped, limited}
+use Rattle.category_lists.specs.Categories.{categoryRule, ruled, combined, mapped, united, limited}
 
 -- 01: "Bool has none anywhere"
 abbrev pub ruleFor : Component → ℕ → Nature → Option (ℤ → ℤ → Result ℤ)
@@ -33,6 +33,14 @@ wholeListsOf (wholeLists ls) = ls
 wholeListsOf (boolLists ls) = []
 wholeListsOf (floatLists ls) = []
 
+abbrev pub boolListsOf : Nature → List (List ℕ)
+boolListsOf absent = []
+boolListsOf (wholeRange rs) = []
+boolListsOf (floatRange rs) = []
+boolListsOf (wholeLists ls) = []
+boolListsOf (boolLists ls) = ls
+boolListsOf (floatLists ls) = []
+
 -- 19: "Float categories are to be combined or mapped"; 20: "A category operand has no lists"
 abbrev pub isFloatLists : Nature → Bool
 isFloatLists k = eqb (natureNumber k) floatListsNature
@@ -47,6 +55,19 @@ listChecks k = check 19 (isFloatLists k) ∷ check 20 (noLists k) ∷ []
 abbrev pub bothListChecks : Nature → Nature → List Check
 bothListChecks l r = listChecks l ++ listChecks r ++ (check 21 (not (eqb (natureNumber l) (natureNumber r))) ∷ [])
 
+-- 02, S-1: the lists of Pool, which are of one kind (21) and not float (19); the other natures are never reached
+abbrev pub unitedNature : ℕ → Nature → Nature → Result Nature
+unitedNature columns absent r = ok absent
+unitedNature columns (wholeRange rs) r = ok absent
+unitedNature columns (floatRange rs) r = ok absent
+unitedNature columns (wholeLists ls) r = andThen (united eqZ columns ls (wholeListsOf r)) (λ ns. ok (wholeLists ns))
+unitedNature columns (boolLists ls) r = andThen (united eqb columns ls (boolListsOf r)) (λ ns. ok (boolLists ns))
+unitedNature columns (floatLists ls) r = ok absent
+
+-- two category operands of Pool: 19 to 21, then left's lists followed by right's
+unfoldable pub listsUnited : ℕ → Nature → Nature → Result Nature
+listsUnited columns l r = checked (bothListChecks l r) (unitedNature columns l r)
+
 module _ (limit : ℕ) (c : Component) (type columns : ℕ) where
   -- two category operands: 19 to 22, then the product
   unfoldable pub listsPair : Nature → Nature → Result Nature
@@ -54,11 +75,8 @@ module _ (limit : ℕ) (c : Component) (type columns : ℕ) where
       checked (bothListChecks l r)
       (ruled (ruleFor c type l) (λ rule. limited limit (combined eqZ rule columns (wholeListsOf l) (wholeListsOf r))))
 
-  unfoldable pub listsAlone : Nature → Result Nature
-  listsAlone l =
-      checked (listChecks l)
-      (ruled (ruleFor c type l) (λ rule. limited limit (mapped eqZ rule columns (wholeListsOf l))))
-
+-- two natures, of which two categories make what `together` says
+module _ (c : Component) (type columns : ℕ) (together : Nature → Nature → Result Nature) where
   unfoldable pub wholeRangeWith : List (Span ℤ) → Nature → Result Nature
   wholeRangeWith xs absent = ok absent
   wholeRangeWith xs (wholeRange ys) = andThen (rangePair (wholeRule c type) columns xs ys) (λ zs. ok (wholeRange zs))
@@ -80,18 +98,33 @@ module _ (limit : ℕ) (c : Component) (type columns : ℕ) where
   listsWith l absent = ok absent
   listsWith l (wholeRange ys) = ok absent
   listsWith l (floatRange ys) = ok absent
-  listsWith l (wholeLists ms) = listsPair l (wholeLists ms)
-  listsWith l (boolLists ms) = listsPair l (boolLists ms)
-  listsWith l (floatLists ms) = listsPair l (floatLists ms)
+  listsWith l (wholeLists ms) = together l (wholeLists ms)
+  listsWith l (boolLists ms) = together l (boolLists ms)
+  listsWith l (floatLists ms) = together l (floatLists ms)
 
-  -- `propagate_binary_nature`. 01: "Either nature absent, or range with categories, gives absent"
-  unfoldable pub binaryNature : Nature → Nature → Result Nature
-  binaryNature absent r = ok absent
-  binaryNature (wholeRange xs) r = wholeRangeWith xs r
-  binaryNature (floatRange xs) r = floatRangeWith xs r
-  binaryNature (wholeLists ls) r = listsWith (wholeLists ls) r
-  binaryNature (boolLists ls) r = listsWith (boolLists ls) r
-  binaryNature (floatLists ls) r = listsWith (floatLists ls) r
+  -- 01: "Either nature absent, or range with categories, gives absent"; 02, S-1: "Nature is absent as for the other pairs"
+  unfoldable pub twoNatures : Nature → Nature → Result Nature
+  twoNatures absent r = ok absent
+  twoNatures (wholeRange xs) r = wholeRangeWith xs r
+  twoNatures (floatRange xs) r = floatRangeWith xs r
+  twoNatures (wholeLists ls) r = listsWith (wholeLists ls) r
+  twoNatures (boolLists ls) r = listsWith (boolLists ls) r
+  twoNatures (floatLists ls) r = listsWith (floatLists ls) r
+
+-- `propagate_binary_nature`
+abbrev pub binaryNature : ℕ → Component → ℕ → ℕ → Nature → Nature → Result Nature
+binaryNature limit c type columns l r = twoNatures c type columns (listsPair limit c type columns) l r
+
+-- 17 to 21 of Pool, and the nature that it derives, however many categories it holds: 24 of the rows comes before 26
+abbrev pub poolNature : Component → ℕ → ℕ → Nature → Nature → Result Nature
+poolNature c type columns l r = twoNatures c type columns (listsUnited columns) l r
+
+module _ (limit : ℕ) (c : Component) (type columns : ℕ) where
+  -- one category operand: 19, 20 and 22, then the mapping
+  unfoldable pub listsAlone : Nature → Result Nature
+  listsAlone l =
+      checked (listChecks l)
+      (ruled (ruleFor c type l) (λ rule. limited limit (mapped eqZ rule columns (wholeListsOf l))))
 
   -- `propagate_unary_nature`
   unfoldable pub unaryNature : Nature → Result Nature

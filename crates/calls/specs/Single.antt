@@ -46,7 +46,7 @@ unfoldable pub delivery : Result (List ℕ) → List ℕ → Outcome
 delivery (refused k) out = outcome k 0 out
 delivery (ok vs) out = cond (leb (length vs) (length out)) (outcome 0 (length vs) (delivered out vs)) (outcome 27 0 out)
 
--- 2: "The component is not 1 to 9"
+-- 2: "The component is not 1 to 9"; 02, S-1: "Code 2 .. admit component 10"
 unfoldable pub singleOf : Form → Numbered → ℕ → List ℕ → List ℕ → List ℕ → Outcome
 singleOf F N.Unlisted node left right out = outcome 2 0 out
 singleOf F (N.Is c) node left right out = delivery (step F c node left right) out

@@ -1,25 +1,22 @@
 -- The product of two lists, pair by pair: each result is noted behind those that were seen.
 --     rowFrom, pairsFrom, product-is    the product so computed
 --     row-start .. row-bad              one step of it
---     stored-..                         one result more in a store, which may be too short for them
 --     Making, making-..                 such a product in the making
 -- Assumes nothing.
 use mathlib.Core.Path.{_≡_, refl, sym, ap, subst, _∙_}
-use mathlib.Core.Bool.{Bool, false}
+use mathlib.Core.Bool.{Bool}
 use mathlib.Core.List.{List, [], _∷_, _++_}
 use Prim.Native.Nat.{ℕ, _+_, _<_, _≤_}
 use native.Mathlib.Numerals.{add-one}
 use native.Mathlib.Omega.{arith}
 use lib.IntN.{ℤ}
-use lib.ListN.{length, take, drop, getD, length-append, drop-of-length-le}
-use lib.Seq.{drop-cons, length-take-le}
+use lib.ListN.{length, drop, getD, drop-of-length-le}
+use lib.Seq.{drop-cons}
 use Rattle.numbers.specs.Result.{Result, ok, refused, andThen}
 use Rattle.numbers.specs.Kind.{eqZ}
-use Rattle.utilities.specs.Lists.{has, noted, firstsFrom, firsts}
+use Rattle.utilities.specs.Lists.{noted, firstsFrom, firsts}
 use Rattle.utilities.specs.Columns.{each}
-use Rattle.utilities.specs.Noted.{Begins, Lacks}
-use Rattle.utilities.proofs.Firsts.{noted-new, noted-keeps, firstsFrom-append}
-use Rattle.utilities.proofs.Begins.{begins-room}
+use Rattle.utilities.proofs.Firsts.{firstsFrom-append}
 use Rattle.category_lists.specs.Categories.{pairs, product}
 use Rattle.category_lists.specs.Answers.{Stored}
 
@@ -111,28 +108,7 @@ module _ {X : Type 0} (same : X → X → Bool) (rule : X → X → Result X) wh
     pub next-row : length bs ≤ j → inRow a us bs i j seen ≡ inPairs us bs i seen
     next-row h = ap (λ (g : Result (List X)). andThen g (λ d. pairsFrom d (drop i us) bs)) (row-end a bs j seen h)
 
--- ---- the store
-
-module _ {k : ℕ} {store seen : List ℤ} (s : Stored k store seen) where
-  -- it was full before
-  pub stored-over : (r : ℕ) (x : ℤ) → length store < k → length store < r → Stored r store (noted eqZ seen x)
-  stored-over r x over h = record { holds = λ room. absurd (omega (arith, room, h)); exceeds = λ o. omega (arith, s .exceeds over, noted-keeps eqZ seen x) }
-
-  -- one result more. v is what the code reads of x
-  module _ {v x : ℤ} (read : v ≡ x) (room : k ≤ length store) {store′ : List ℤ} where
-    pub stored-noted : {m : ℕ} → Begins (noted eqZ (take k store) v) m store store′ → Stored m store′ (noted eqZ seen x)
-    stored-noted {m} b =
-        let same : noted eqZ (take k store) v ≡ noted eqZ seen x = (λ i. noted eqZ (s .holds room i) (read i)) in
-        record { holds = λ h. b .start ∙ same; exceeds = λ h. absurd (omega (arith, h, begins-room b)) }
-
-    pub stored-full : (r : ℕ) → length store < r → Lacks k v store store′ → Stored r store′ (noted eqZ seen x)
-    stored-full r h l =
-        let new : has eqZ x seen ≡ false = sym (λ i. has eqZ (read i) (s .holds room i)) ∙ l .new in
-        let taken : length seen ≡ k = sym (ap length (s .holds room)) ∙ length-take-le k store room in
-        let above : length store′ < length (noted eqZ seen x) =
-        omega (arith, ap length (noted-new eqZ seen x new), length-append seen (x ∷ []), taken, l .full, ap length (l .same))
-        in
-        record { holds = λ o. absurd (omega (arith, o, h, ap length (l .same))); exceeds = λ o. above }
+-- ---- a product in the making
 
 -- the whole is what the rest makes of what was seen, and the store keeps that as far as it has room
 pub record Making (k : ℕ) (store : List ℤ) (rest : List ℤ → Result (List ℤ)) (whole : Result (List ℤ)) : Type 0 where

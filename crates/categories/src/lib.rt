@@ -1,41 +1,22 @@
 // Categories combined by Add, Subtract, Multiply and Divide: from the lists of two sheets, the lists of the result, written into two lent buffers.
 use base::Component;
+use base::form;
 use base::form::Form;
 use base::refusals;
 use numbers::Checked;
-use utilities::Noted;
 use writer::Derived;
 ghost use mathlib.Core.Path.{_≡_};
 ghost use mathlib.Core.Bool.{false};
-ghost use mathlib.Core.List.{List};
-ghost use Prim.Native.Nat.{_+_, _^_, _≤_, _<_};
-ghost use lib.IntN.{ℤ};
-ghost use lib.ListN.{length, take};
+ghost use Prim.Native.Nat.{_≤_, _<_};
 ghost use Rattle.numbers.specs.Kind.{eqZ};
-ghost use Rattle.utilities.specs.Lists.{noted};
-ghost use Rattle.utilities.specs.Noted.{Hinting};
 ghost use Rattle.base.specs.Form.{formOf, listCount};
 ghost use Rattle.base.specs.Decode.{asWhole, lists};
 ghost use Rattle.base.specs.Components.{familyOf};
 ghost use Rattle.base.specs.declared.Family.the-variants as Fam;
 ghost use Rattle.writer.specs.Written.{inWriting, derivedIn, listsRoom, Within};
 ghost use Rattle.category_lists.specs.Categories.{combined, limited, ruleOf};
-ghost use Rattle.category_lists.specs.Columnwise.{Listed, eachFrom, lesserOf, columnOf};
-ghost use Rattle.category_lists.specs.Answers.{Stores, Arrays, Stored};
-
-// A result goes behind the k that were noted, unless it is among them. Returns how many there are then, or one more than there is room for.
-fn note_result(store: &mut [i64], k: usize, v: i64, hints: &mut [u8]) -> usize
-    requires { ⌜ (k ≤ length (now store) + 1) × (length (now store) < 2 ^ 32) × Hinting (now hints) (take k (now store)) ⌝ }
-    ensures { λ r. ⌜ (r ≤ length (now (store .entry)) + 1) × Hinting (now (hints .exit)) (take r (now (store .exit))) × ((seen : List ℤ) → Stored k (now (store .entry)) seen → Stored r (now (store .exit)) (noted eqZ seen v)) ⌝ }
-{
-    if store.len() < k {
-        return k;
-    }
-    let Noted::At(m) = utilities::note_hinted(store, k, v, hints) else {
-        return k + 1;
-    };
-    m
-}
+ghost use Rattle.category_lists.specs.Columnwise.{Listed, eachFrom, columnOf};
+ghost use Rattle.category_lists.specs.Answers.{Stores, Arrays};
 
 // n columns in order, of each the pairs, left outer. The first pair that fails ends the whole product; too many categories refuse only when every pair has passed.
 fn products_into(
@@ -76,7 +57,7 @@ fn products_into(
                     break 'product;
                 };
                 m += 1;
-                k = note_result(store, k, v, hints);
+                k = category_lists::note_result(store, k, v, hints);
             }
         }
         let end = category_lists::column_end(f, left, right, j, n);
@@ -86,13 +67,7 @@ fn products_into(
     if code != 0 {
         return Derived::Refused(code);
     }
-    category_lists::gather(f, n, t)
-}
-
-fn lesser(a: usize, b: usize) -> usize
-    ensures { λ r. ⌜ r ≡ lesserOf a b ⌝ }
-{
-    if a < b { a } else { b }
+    category_lists::gather(f, form::WHOLE_LISTS, n, t)
 }
 
 // The two operands' lists combined, over as many columns as both have.
@@ -115,7 +90,7 @@ pub fn lists_pair(
 {
     let l = base::sizes_at(f, left);
     let r = base::sizes_at(f, right);
-    let n = lesser(
+    let n = category_lists::lesser(
         category_lists::spread(columns, l.lists),
         category_lists::spread(columns, r.lists),
     );

@@ -153,23 +153,28 @@ module _ {X : Type 0} (same : X → X → Bool) (columns : ℕ) where
   standardized-pick (l ∷ []) j h = standardized-one same columns l j [] h
   standardized-pick (l ∷ m ∷ ls) j h = standardized-at same columns (l ∷ m ∷ ls) j (λ e. omega arith) ∙ ap (firsts same) (sym (pick-own (l ∷ m ∷ ls) j (λ e. omega arith)))
 
+-- two operands' lists, column by column
+pub pairs-are : {X Y : Type 0} (same : X → X → Bool) (rule : List X → List X → Result Y) (columns : ℕ) (ls ms : List (List X)) (n : ℕ)
+    → n ≡ lesserOf (spreadOf columns (length ls)) (spreadOf columns (length ms))
+    → eachFrom (λ j. rule (firsts same (pick ls j)) (firsts same (pick ms j))) n 0 ≡ eachPair rule (standardized same columns ls) (standardized same columns ms)
+pairs-are {X} {Y} same rule columns ls ms n e =
+    let us = standardized same columns ls in
+    let bs = standardized same columns ms in
+    let f : ℕ → Result Y = λ j. rule (firsts same (pick ls j)) (firsts same (pick ms j)) in
+    let l = standardized-length same columns ls in
+    let m = standardized-length same columns ms in
+    let below = lesser-below (length us) (length bs) in
+    ap (λ (k : ℕ). eachFrom f k 0) (e ∙ sym (ap₂ lesserOf l m))
+    ∙ from-pairs [] f rule us bs 0
+    (λ k h.
+    let a : k < spreadOf columns (length ls) = omega (arith, below .0) in
+    let b : k < spreadOf columns (length ms) = omega (arith, below .1) in
+    ap f (omega arith) ∙ sym (ap₂ rule (standardized-pick same columns ls k a) (standardized-pick same columns ms k b)))
+
 module _ {X : Type 0} (same : X → X → Bool) (rule : X → X → Result X) (columns : ℕ) (ls ms : List (List X)) (n : ℕ) where
   pub combined-is : n ≡ lesserOf (spreadOf columns (length ls)) (spreadOf columns (length ms)) → eachFrom (columnOf false same rule ls ms) n 0 ≡ combined same rule columns ls ms
   unfolding combined columnOf
-  combined-is e =
-      let us = standardized same columns ls in
-      let bs = standardized same columns ms in
-      let size : n ≡ lesserOf (length us) (length bs) = e ∙ sym (ap₂ lesserOf (standardized-length same columns ls) (standardized-length same columns ms)) in
-      let below = lesser-below (length us) (length bs) in
-      let l = standardized-length same columns ls in
-      let m = standardized-length same columns ms in
-      ap (λ (k : ℕ). eachFrom (columnOf false same rule ls ms) k 0) size
-      ∙ from-pairs [] (columnOf false same rule ls ms) (product same rule) us bs 0
-      (λ k h.
-      let a : k < spreadOf columns (length ls) = omega (arith, below .0) in
-      let b : k < spreadOf columns (length ms) = omega (arith, below .1) in
-      ap (columnOf false same rule ls ms) (omega arith)
-      ∙ sym (ap₂ (product same rule) (standardized-pick same columns ls k a) (standardized-pick same columns ms k b)))
+  combined-is e = pairs-are same (product same rule) columns ls ms n e
 
   pub mapped-is : n ≡ spreadOf columns (length ls) → eachFrom (columnOf true same rule ls ms) n 0 ≡ mapped same rule columns ls
   unfolding mapped columnOf
@@ -182,25 +187,25 @@ module _ {X : Type 0} (same : X → X → Bool) (rule : X → X → Result X) (c
       let a : k < spreadOf columns (length ls) = omega arith in
       ap (columnOf true same rule ls ms) (omega arith) ∙ sym (ap (each (λ a. rule a a)) (standardized-pick same columns ls k a)))
 
--- where each operand has one list, every column is the first
-pub column-one : {X : Type 0} (alone : Bool) (same : X → X → Bool) (rule : X → X → Result X) (ls ms : List (List X)) → length ls ≡ 1 → length ms ≡ 1 → (j : ℕ)
-    → columnOf alone same rule ls ms 0 ≡ columnOf alone same rule ls ms j
-unfolding columnOf
-column-one {X} true same rule ls ms a b j = ap (λ (l : List X). each (λ a. rule a a) (firsts same l)) (pick-only ls 0 a ∙ sym (pick-only ls j a))
-column-one {X} false same rule ls ms a b j =
-    ap₂ (λ (l m : List X). product same rule (firsts same l) (firsts same m)) (pick-only ls 0 a ∙ sym (pick-only ls j a)) (pick-only ms 0 b ∙ sym (pick-only ms j b))
+-- the columns from j up to end are all column j, for whatever is made of the two operands' lists
+pub alike : {X Y : Type 0} (made : List X → List X → Result Y) (F : Form) (left right : List ℕ) (read : ℕ → X) (j end : ℕ) {y : Y} → Alike F left right j end
+    → made (pick (lists F left read) j) (pick (lists F right read) j) ≡ ok y
+    → (i : ℕ) → j ≤ i → i < end → made (pick (lists F left read) i) (pick (lists F right read) i) ≡ ok y
+alike {X} made F left right read j end a column i from to =
+    ⊎-elim
+    (λ (e : end ≡ j + 1). let same : i ≡ j = omega arith in rw same column)
+    (λ (e : (listCount F left ≡ 1) × (listCount F right ≡ 1)). ap₂ made (one left (e .0)) (one right (e .1)) ∙ column)
+    a
+  where
+    one : (s : List ℕ) → listCount F s ≡ 1 → pick (lists F s read) i ≡ pick (lists F s read) j
+    one s e = let n = lists-length F s read ∙ e in pick-only (lists F s read) i n ∙ sym (pick-only (lists F s read) j n)
 
 -- column j of the operands' sheets, by a component's rule
 abbrev pub columnIn : Bool → Component → Form → List ℕ → List ℕ → ℕ → Result (List ℤ)
 columnIn alone c F left right = columnOf alone eqZ (ruleOf c) (lists F left asWhole) (lists F right asWhole)
 
--- the columns from j up to end are all column j
 pub column-alike : (alone : Bool) (c : Component) (F : Form) (left right : List ℕ) (j end : ℕ) {xs : List ℤ} → Alike F left right j end
     → columnIn alone c F left right j ≡ ok xs → (i : ℕ) → j ≤ i → i < end → columnIn alone c F left right i ≡ ok xs
-column-alike alone c F left right j end {xs} a column i from to =
-    ⊎-elim
-    (λ (e : end ≡ j + 1). let same : i ≡ j = omega arith in rw same column)
-    (λ (e : (listCount F left ≡ 1) × (listCount F right ≡ 1)).
-    let one = column-one alone eqZ (ruleOf c) (lists F left asWhole) (lists F right asWhole) (lists-length F left asWhole ∙ e .0) (lists-length F right asWhole ∙ e .1) in
-    sym (one i) ∙ one j ∙ column)
-    a
+unfolding columnOf
+column-alike true c F left right = alike (λ l m. each (λ a. ruleOf c a a) (firsts eqZ l)) F left right asWhole
+column-alike false c F left right = alike (λ l m. product eqZ (ruleOf c) (firsts eqZ l) (firsts eqZ m)) F left right asWhole

@@ -1,6 +1,9 @@
 -- The columns' lists, gathered in the two buffers.
 --     number-more .. list-none    the bytes of one list, value by value
---     Columns, columns-..         what is written after j columns, and what the other columns will make of it
+--     stored-..                   one value more in a store, which may be too short for them
+--     columns-..                  what is written after j columns, and what the other columns will make of it
+--     kept-written, limited-written    26 on a nature, and on its lists in writing
+--     Going, Ended                the loop over the columns, and how it is left
 -- Assumes nothing.
 use mathlib.Core.Path.{_≡_, refl, sym, ap, subst, _∙_}
 use mathlib.Core.Bool.{Bool, true, false, cond}
@@ -15,16 +18,21 @@ use lib.Seq.{drop-cons, length-take-le}
 use lib.Dec.{ltb}
 use borrow.Author.Tests.{ltb-true, ltb-false, lt-ltb, le-ltb}
 use Rattle.bytes.specs.Le.{leBytes}
-use Rattle.numbers.specs.Result.{Result, ok, refused, andThen}
+use Rattle.numbers.specs.Result.{Result, ok, refused}
+use Rattle.numbers.specs.Kind.{eqZ}
+use Rattle.utilities.specs.Lists.{has, noted}
+use Rattle.utilities.specs.Noted.{Begins, Lacks}
+use Rattle.utilities.proofs.Firsts.{noted-new, noted-keeps}
+use Rattle.utilities.proofs.Begins.{begins-room}
 use Rattle.base.specs.Form.{Form, wholeListsNature}
-use Rattle.base.specs.Encode.{joined, wholeBits, total, numbersFrom, valuesOf, numberBytes, listBytes}
-use Rattle.base.specs.Sheet.{wholeLists}
+use Rattle.base.specs.Encode.{joined, wholeBits, total, numbersFrom, valuesOf, numberBytes, listBytes, valueCount}
+use Rattle.base.specs.Sheet.{Nature, wholeLists}
 use Rattle.writer.specs.Written.{Written, writtenOf, inWriting, derivedIn, listsRoom, Within}
 use Rattle.writer.specs.declared.Derived.{Derived}
 use Rattle.writer.specs.declared.Derived.the-variants as D
-use Rattle.category_lists.specs.Categories.{counted, limited}
+use Rattle.category_lists.specs.Categories.{keptTo, limited}
 use Rattle.category_lists.specs.Columnwise.{eachFrom}
-use Rattle.category_lists.specs.Answers.{Arrays, Stored, Grown, gathered, Tally, Columns}
+use Rattle.category_lists.specs.Answers.{Arrays, Stored, Grown, gathered, listsWritten, Tally, Columns}
 use Rattle.category_lists.proofs.Columnwise.{behind-none, from-ok, from-bad, from-end}
 
 -- ---- the bytes of one list
@@ -72,6 +80,27 @@ stored-above {k} t {limit} {store} {xs} s size h = go (ltb (length store) k) ref
 
 pub stored-list : {k : ℕ} (store : List ℤ) → k ≤ length store → Stored k store (take k store)
 stored-list store room = record { holds = λ h. refl; exceeds = λ h. absurd (omega (arith, h, room)) }
+
+module _ {k : ℕ} {store seen : List ℤ} (s : Stored k store seen) where
+  -- it was full before
+  pub stored-over : (r : ℕ) (x : ℤ) → length store < k → length store < r → Stored r store (noted eqZ seen x)
+  stored-over r x over h = record { holds = λ room. absurd (omega (arith, room, h)); exceeds = λ o. omega (arith, s .exceeds over, noted-keeps eqZ seen x) }
+
+  -- one result more. v is what the code reads of x
+  module _ {v x : ℤ} (read : v ≡ x) (room : k ≤ length store) {store′ : List ℤ} where
+    pub stored-noted : {m : ℕ} → Begins (noted eqZ (take k store) v) m store store′ → Stored m store′ (noted eqZ seen x)
+    stored-noted {m} b =
+        let same : noted eqZ (take k store) v ≡ noted eqZ seen x = (λ i. noted eqZ (s .holds room i) (read i)) in
+        record { holds = λ h. b .start ∙ same; exceeds = λ h. absurd (omega (arith, h, begins-room b)) }
+
+    pub stored-full : (r : ℕ) → length store < r → Lacks k v store store′ → Stored r store′ (noted eqZ seen x)
+    stored-full r h l =
+        let new : has eqZ x seen ≡ false = sym (λ i. has eqZ (read i) (s .holds room i)) ∙ l .new in
+        let taken : length seen ≡ k = sym (ap length (s .holds room)) ∙ length-take-le k store room in
+        let above : length store′ < length (noted eqZ seen x) =
+        omega (arith, ap length (noted-new eqZ seen x new), length-append seen (x ∷ []), taken, l .full, ap length (l .same))
+        in
+        record { holds = λ o. absurd (omega (arith, o, h, ap length (l .same))); exceeds = λ o. above }
 
 -- ---- one list more
 
@@ -131,22 +160,25 @@ module _ {F : Form} {t : ℕ} {numbers values : List ℕ} {done : List (List ℤ
         second = λ h. g .second h ∙ ap (λ (l : List ℕ). l ++ listBytes wholeBits xs) (a .second (within h)) ∙ sym (values-append done xs);
       }
 
-  tally-written : {n : ℕ} → length done ≡ n → derivedIn (gathered F n t) numbers values ≡ inWriting F (limited (F .categoryLimit) (ok done))
-  unfolding gathered counted
-  tally-written {n} size = go (ltb (F .categoryLimit) t) refl
+  tally-written : (nature : ℕ) {n : ℕ} → length done ≡ n → derivedIn (gathered F nature n t) numbers values ≡ listsWritten F nature (ok done)
+  unfolding gathered
+  tally-written nature {n} size = go (ltb (F .categoryLimit) t) refl
     where
-      limit : {b : Bool} → ltb (F .categoryLimit) (total done) ≡ b → inWriting F (andThen (cond b (refused 26) (ok done)) (λ ls. ok (wholeLists ls))) ≡ inWriting F (limited (F .categoryLimit) (ok done))
-      limit e = ap (λ (b : Bool). inWriting F (andThen (cond b (refused 26) (ok done)) (λ ls. ok (wholeLists ls)))) (sym e)
+      whole : Result Written
+      whole = ok (record { nature = nature; entries = length done; values = total done; first = numbersFrom F 0 done; second = valuesOf wholeBits done })
+
+      limit : {b : Bool} → ltb (F .categoryLimit) (total done) ≡ b → cond b (refused 26) whole ≡ listsWritten F nature (ok done)
+      limit e = ap (λ (b : Bool). cond b (refused 26) whole) (sym e)
 
       go : (b : Bool) → ltb (F .categoryLimit) t ≡ b
-          → derivedIn (cond b (D.Refused 26) (D.Nature (record { nature = wholeListsNature; entries = n; values = t; first = F .numberWidth * t; second = 8 * t }))) numbers values
-          ≡ inWriting F (limited (F .categoryLimit) (ok done))
+          → derivedIn (cond b (D.Refused 26) (D.Nature (record { nature = nature; entries = n; values = t; first = F .numberWidth * t; second = 8 * t }))) numbers values
+          ≡ listsWritten F nature (ok done)
       go true e = limit (lt-ltb (F .categoryLimit) (total done) (a .over (ltb-true (F .categoryLimit) t e)))
       go false e =
           let h = ltb-false (F .categoryLimit) t e in
           let count = a .count h in
-          let parts : _≡_ {A = Result Written} (ok (record { nature = wholeListsNature; entries = n; values = t; first = take (F .numberWidth * t) numbers; second = take (8 * t) values })) (ok (writtenOf F (wholeLists done))) =
-          (λ i. ok (record { nature = wholeListsNature; entries = sym size i; values = count i; first = a .first h i; second = a .second h i }))
+          let parts : _≡_ {A = Result Written} (ok (record { nature = nature; entries = n; values = t; first = take (F .numberWidth * t) numbers; second = take (8 * t) values })) whole =
+          (λ i. ok (record { nature = nature; entries = sym size i; values = count i; first = a .first h i; second = a .second h i }))
           in
           parts ∙ limit (le-ltb (F .categoryLimit) (total done) (omega arith))
 
@@ -165,12 +197,26 @@ module _ {F : Form} {f : ℕ → Result (List ℤ)} {n j t : ℕ} {numbers value
   pub columns-refused : {k : ℕ} → j < n → f j ≡ refused k → eachFrom f n 0 ≡ refused k
   columns-refused h e = a .left ∙ from-bad f n j (a .done) h e
 
-  pub columns-done : j ≡ n → derivedIn (gathered F n t) numbers values ≡ inWriting F (limited (F .categoryLimit) (eachFrom f n 0))
-  columns-done e =
-      tally-written (a .tally) (a .lists ∙ e)
-      ∙ ap (λ (g : Result (List (List ℤ))). inWriting F (limited (F .categoryLimit) g)) (sym (a .left ∙ from-end f n j (a .done) (omega arith)))
+  pub columns-done : (nature : ℕ) → j ≡ n → derivedIn (gathered F nature n t) numbers values ≡ listsWritten F nature (eachFrom f n 0)
+  columns-done nature e =
+      tally-written (a .tally) nature (a .lists ∙ e)
+      ∙ ap (listsWritten F nature) (sym (a .left ∙ from-end f n j (a .done) (omega arith)))
 
--- ---- the loop over the columns, of products and of maps
+-- ---- natures that keep to the limit
+
+pub kept-written : (F : Form) (k : Nature) → cond (ltb (F .categoryLimit) (valueCount k)) (refused 26) (ok (writtenOf F k)) ≡ inWriting F (keptTo (F .categoryLimit) k)
+unfolding keptTo
+kept-written F k = go (ltb (F .categoryLimit) (valueCount k))
+  where
+    go : (b : Bool) → cond b (refused 26) (ok (writtenOf F k)) ≡ inWriting F (cond b (refused 26) (ok k))
+    go true = refl
+    go false = refl
+
+pub limited-written : (F : Form) (g : Result (List (List ℤ))) → listsWritten F wholeListsNature g ≡ inWriting F (limited (F .categoryLimit) g)
+limited-written F (ok ls) = kept-written F (wholeLists ls)
+limited-written F (refused k) = refl
+
+-- ---- the loop over the columns, of products, of maps and of unions
 
 pub arrays-kept : {F : Form} {numbers₀ values₀ numbers values : List ℕ} → Arrays F numbers₀ values₀ → length numbers ≡ length numbers₀ → length values ≡ length values₀ → Arrays F numbers values
 arrays-kept a n v = record { numbered = omega (arith, a .numbered, n); valued = omega (arith, a .valued, v) }
@@ -185,12 +231,12 @@ pub record Going (F : Form) (f : ℕ → Result (List ℤ)) (n : ℕ) (numbers�
 
 -- what is gathered of n lists keeps to the limits and to the two buffers
 gathered-within :
-    {F : Form} (n t : ℕ) {numbers values : List ℕ} → n ≤ F .listLimit → Arrays F numbers values → Within F (listsRoom F) numbers values (gathered F n t)
+    {F : Form} (nature n t : ℕ) {numbers values : List ℕ} → n ≤ F .listLimit → Arrays F numbers values → Within F (listsRoom F) numbers values (gathered F nature n t)
 unfolding gathered
-gathered-within {F} n t {numbers} {values} h rooms = by (ltb (F .categoryLimit) t) refl
+gathered-within {F} nature n t {numbers} {values} h rooms = by (ltb (F .categoryLimit) t) refl
   where
     parts : Derived
-    parts = D.Nature (record { nature = wholeListsNature; entries = n; values = t; first = F .numberWidth * t; second = 8 * t })
+    parts = D.Nature (record { nature = nature; entries = n; values = t; first = F .numberWidth * t; second = 8 * t })
 
     by : (b : Bool) → ltb (F .categoryLimit) t ≡ b → Within F (listsRoom F) numbers values (cond b (D.Refused 26) parts)
     by true e = tt
@@ -218,9 +264,13 @@ module _ {F : Form} {f : ℕ → Result (List ℤ)} {n : ℕ} {numbers₀ values
   pub going-done : {code′ : ℕ} → code′ ≡ code → n ≤ j → Ended F f n numbers values code′ t
   going-done e h = let all : j ≡ n = omega (arith, g .within, h) in done (e ∙ g .fine) (rw all at (g .columns))
 
+  -- all are gathered, where none can be refused
+  pub going-gathered : (nature : ℕ) → n ≤ j → {r : Derived} → r ≡ gathered F nature n t → derivedIn r numbers values ≡ listsWritten F nature (eachFrom f n 0)
+  going-gathered nature h e = ap (λ (r : Derived). derivedIn r numbers values) e ∙ columns-done (g .columns) nature (omega (arith, g .within, h))
+
   -- the parts that were gathered
-  pub going-within : n ≤ F .listLimit → Arrays F numbers₀ values₀ → {r : Derived} → r ≡ gathered F n t → Within F (listsRoom F) numbers values r
-  going-within h rooms e = subst (λ (r : Derived). Within F (listsRoom F) numbers values r) (sym e) (gathered-within n t h (arrays-kept rooms (g .first) (g .second)))
+  pub going-within : (nature : ℕ) → n ≤ F .listLimit → Arrays F numbers₀ values₀ → {r : Derived} → r ≡ gathered F nature n t → Within F (listsRoom F) numbers values r
+  going-within nature h rooms e = subst (λ (r : Derived). Within F (listsRoom F) numbers values r) (sym e) (gathered-within nature n t h (arrays-kept rooms (g .first) (g .second)))
 
   pub going-failed : {code′ k : ℕ} → code′ ≡ suc k → j < n → f j ≡ refused (suc k) → Ended F f n numbers values code′ t
   going-failed e h r = failed (λ z. omega (arith, e, z)) (columns-refused (g .columns) h r ∙ ap refused (sym e))
@@ -230,6 +280,7 @@ module _ {F : Form} {f : ℕ → Result (List ℤ)} {n : ℕ} {numbers values : 
   ended-refused (done e a) h = absurd (h e)
   ended-refused (failed e r) h = ap (λ (g : Result (List (List ℤ))). inWriting F (limited (F .categoryLimit) g)) (sym r)
 
-  pub ended-gathered : Ended F f n numbers values code t → code ≡ 0 → {r : Derived} → r ≡ gathered F n t → derivedIn r numbers values ≡ inWriting F (limited (F .categoryLimit) (eachFrom f n 0))
-  ended-gathered (done e a) h g = ap (λ (r : Derived). derivedIn r numbers values) g ∙ columns-done a refl
+  pub ended-gathered :
+      Ended F f n numbers values code t → code ≡ 0 → {r : Derived} → r ≡ gathered F wholeListsNature n t → derivedIn r numbers values ≡ inWriting F (limited (F .categoryLimit) (eachFrom f n 0))
+  ended-gathered (done e a) h g = ap (λ (r : Derived). derivedIn r numbers values) g ∙ columns-done a wholeListsNature refl ∙ limited-written F (eachFrom f n 0)
   ended-gathered (failed e r) h g = absurd (e h)

@@ -18,7 +18,7 @@ use Rattle.utilities.specs.Noted.{Begins}
 use Rattle.utilities.proofs.Built.{listFrom-length, listFrom-at}
 use Rattle.utilities.proofs.Firsts.{firsts-length}
 use Rattle.utilities.proofs.Begins.{begins-none, begins-note, begins-room}
-use Rattle.base.specs.Form.{Form, natureAt, byteAt, isRangeNature, groupCount, listCount, categoryCount}
+use Rattle.base.specs.Form.{Form, groupCount, listCount, categoryCount}
 use Rattle.base.specs.Decode.{asWhole, prepended, listNumber, categoryAt, listAt, lists}
 use Rattle.base.specs.Sized.{SizesIn, ListsFit}
 use Rattle.base.specs.declared.Sizes.{Sizes}
@@ -26,9 +26,6 @@ use Rattle.base.proofs.Passed.{passed, sized, long-enough, lists-fit}
 use Rattle.category_lists.specs.Columnwise.{Listed, pick}
 
 module _ {F : Form} {s : List ℕ} (l : Listed F s) where
-  no-range : isRangeNature (byteAt F natureAt s) ≡ false
-  no-range = ap isRangeNature (l .nature)
-
   pub listed-long : F .arraysAt ≤ length s
   listed-long = long-enough (passed F s (l .passed))
 
@@ -36,7 +33,7 @@ module _ {F : Form} {s : List ℕ} (l : Listed F s) where
   listed-within = passed F s (l .passed) .listsWithin
 
   pub listed-fits : {r : Sizes} → SizesIn F s r → ListsFit F s (r .groups) (r .lists) (r .categories)
-  listed-fits a = lists-fit (sized F s (l .passed) a) no-range
+  listed-fits a = lists-fit (sized F s (l .passed) a) (l .no-range)
 
 prepended-length : {X : Type 0} (b : Bool) (x : X) (xs : List X) → length (prepended b x xs) ≤ length xs + 1
 prepended-length true x xs = omega arith

@@ -32,8 +32,8 @@ Other ks c = OneOf ks (tagOf Component.the-type c)
 other-family : {f g : Family} → f ≡ g → tagOf Family.the-type f ≡ tagOf Family.the-type g
 other-family e = ap (tagOf Family.the-type) e
 
-pub not-unary : (c : Component) → Other (1 ∷ 2 ∷ 3 ∷ 4 ∷ 5 ∷ 6 ∷ 7 ∷ []) c → familyOf c ≡ Fam.Unary → ⊥
-not-unary C.Abs h e = miss (1 ∷ 2 ∷ 3 ∷ 4 ∷ 5 ∷ 6 ∷ 7 ∷ []) 0 tt h
+pub not-unary : (c : Component) → Other (1 ∷ 2 ∷ 3 ∷ 4 ∷ 5 ∷ 6 ∷ 7 ∷ 9 ∷ []) c → familyOf c ≡ Fam.Unary → ⊥
+not-unary C.Abs h e = miss (1 ∷ 2 ∷ 3 ∷ 4 ∷ 5 ∷ 6 ∷ 7 ∷ 9 ∷ []) 0 tt h
 not-unary C.Add h e = let t = other-family e in omega arith
 not-unary C.Subtract h e = let t = other-family e in omega arith
 not-unary C.Multiply h e = let t = other-family e in omega arith
@@ -41,15 +41,17 @@ not-unary C.Divide h e = let t = other-family e in omega arith
 not-unary C.Modulo h e = let t = other-family e in omega arith
 not-unary C.Log h e = let t = other-family e in omega arith
 not-unary C.Power h e = let t = other-family e in omega arith
-not-unary C.Negative h e = miss (1 ∷ 2 ∷ 3 ∷ 4 ∷ 5 ∷ 6 ∷ 7 ∷ []) 8 tt h
+not-unary C.Negative h e = miss (1 ∷ 2 ∷ 3 ∷ 4 ∷ 5 ∷ 6 ∷ 7 ∷ 9 ∷ []) 8 tt h
+not-unary C.Pool h e = let t = other-family e in omega arith
 
-pub not-pair : (c : Component) → Other (0 ∷ 5 ∷ 6 ∷ 7 ∷ 8 ∷ []) c → familyOf c ≡ Fam.Pair → ⊥
+pub not-pair : (c : Component) → Other (0 ∷ 5 ∷ 6 ∷ 7 ∷ 8 ∷ 9 ∷ []) c → familyOf c ≡ Fam.Pair → ⊥
 not-pair C.Abs h e = let t = other-family e in omega arith
-not-pair C.Add h e = miss (0 ∷ 5 ∷ 6 ∷ 7 ∷ 8 ∷ []) 1 tt h
-not-pair C.Subtract h e = miss (0 ∷ 5 ∷ 6 ∷ 7 ∷ 8 ∷ []) 2 tt h
-not-pair C.Multiply h e = miss (0 ∷ 5 ∷ 6 ∷ 7 ∷ 8 ∷ []) 3 tt h
-not-pair C.Divide h e = miss (0 ∷ 5 ∷ 6 ∷ 7 ∷ 8 ∷ []) 4 tt h
+not-pair C.Add h e = miss (0 ∷ 5 ∷ 6 ∷ 7 ∷ 8 ∷ 9 ∷ []) 1 tt h
+not-pair C.Subtract h e = miss (0 ∷ 5 ∷ 6 ∷ 7 ∷ 8 ∷ 9 ∷ []) 2 tt h
+not-pair C.Multiply h e = miss (0 ∷ 5 ∷ 6 ∷ 7 ∷ 8 ∷ 9 ∷ []) 3 tt h
+not-pair C.Divide h e = miss (0 ∷ 5 ∷ 6 ∷ 7 ∷ 8 ∷ 9 ∷ []) 4 tt h
 not-pair C.Modulo h e = let t = other-family e in omega arith
 not-pair C.Log h e = let t = other-family e in omega arith
 not-pair C.Power h e = let t = other-family e in omega arith
 not-pair C.Negative h e = let t = other-family e in omega arith
+not-pair C.Pool h e = let t = other-family e in omega arith

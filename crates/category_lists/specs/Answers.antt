@@ -6,10 +6,11 @@ use Prim.Native.Nat.{ℕ, _+_, _-_, _*_, _<_, _≤_}
 use lib.IntN.{ℤ}
 use lib.ListN.{length, take}
 use lib.Dec.{ltb}
-use Rattle.numbers.specs.Result.{Result}
+use Rattle.numbers.specs.Result.{Result, ok, refused, andThen}
 use Rattle.utilities.specs.Noted.{hintCount}
-use Rattle.base.specs.Form.{Form, wholeListsNature}
+use Rattle.base.specs.Form.{Form}
 use Rattle.base.specs.Encode.{wholeBits, total, listBytes, valuesOf, numberBytes, numbersFrom}
+use Rattle.writer.specs.Written.{Written}
 use Rattle.writer.specs.declared.Derived.{Derived}
 use Rattle.writer.specs.declared.Derived.the-variants as D
 use Rattle.category_lists.specs.Columnwise.{eachFrom, behind}
@@ -40,11 +41,19 @@ module _ (F : Form) where
     pub first : r ≤ F .categoryLimit → take (F .numberWidth * r) numbers′ ≡ take (F .numberWidth * t) numbers ++ numberBytes F j xs
     pub second : r ≤ F .categoryLimit → take (8 * r) values′ ≡ take (8 * t) values ++ listBytes wholeBits xs
 
-  -- n lists of t categories, where the bytes stand in the two buffers. 26: "The result holds over 128 categories"
-  unfoldable pub gathered : ℕ → ℕ → Derived
-  gathered n t =
+  -- n lists of t categories, of a nature, where the bytes stand in the two buffers. 26: "The result holds over 128 categories"
+  unfoldable pub gathered : ℕ → ℕ → ℕ → Derived
+  gathered nature n t =
       cond (ltb (F .categoryLimit) t) (D.Refused 26)
-      (D.Nature (record { nature = wholeListsNature; entries = n; values = t; first = F .numberWidth * t; second = 8 * t }))
+      (D.Nature (record { nature = nature; entries = n; values = t; first = F .numberWidth * t; second = 8 * t }))
+
+  -- the same, of the lists themselves: lists of a nature in writing, their values as whole numbers
+  abbrev pub listsWritten : ℕ → Result (List (List ℤ)) → Result Written
+  listsWritten nature g =
+      andThen g
+      (λ ls.
+      cond (ltb (F .categoryLimit) (total ls)) (refused 26)
+      (ok (record { nature = nature; entries = length ls; values = total ls; first = numbersFrom F 0 ls; second = valuesOf wholeBits ls })))
 
   -- the lists `done` are written, or they hold too many categories
   pub record Tally (t : ℕ) (numbers values : List ℕ) (done : List (List ℤ)) : Type 0 where

@@ -1,4 +1,4 @@
--- 01, "Categories": lists mapped or combined by a rule.
+-- 01, "Categories", and 02, S-1: lists mapped or combined by a rule, or united.
 use mathlib.Core.Bool.{Bool, cond}
 use mathlib.Core.List.{List, [], _∷_, _++_}
 use mathlib.Core.Option.{Option, none, some}
@@ -11,7 +11,7 @@ use Rattle.numbers.specs.Kind.{whole, fitting}
 use Rattle.utilities.specs.Lists.{firsts, standardized}
 use Rattle.base.specs.Form.{intType}
 use Rattle.base.specs.Sheet.{Nature, wholeLists}
-use Rattle.base.specs.Encode.{total}
+use Rattle.base.specs.Encode.{valueCount}
 use Rattle.base.specs.declared.Component.{Component}
 use Rattle.base.specs.declared.Component.the-variants as C
 use Rattle.utilities.specs.Columns.{each, eachPair}
@@ -34,7 +34,7 @@ powerWhole a (pos n) = cond (inRange (pow a n)) (ok (pow a n)) (refused 25)
 powerWhole a (negsuc n) = refused 25
 
 -- 01: "Whole rules exist for 1 to 5, 9, 6 and Int Power. Float Power has none". `none` is 22; Abs and Negative read the left alone.
--- (For 6 to 8 this is never reached: 15 refuses categories on the right of Modulo, Log and Int Power.)
+-- (For 6 to 8 this is never reached: 15 refuses categories on the right of Modulo, Log and Int Power. Nor for Pool, which unites lists.)
 unfoldable pub categoryRule : Component → ℕ → Option (ℤ → ℤ → Result ℤ)
 categoryRule C.Abs type = some (λ a b. absWhole a)
 categoryRule C.Add type = some (whole .add)
@@ -45,6 +45,7 @@ categoryRule C.Modulo type = cond (eqb type intType) (some modWhole) none
 categoryRule C.Log type = none
 categoryRule C.Power type = cond (eqb type intType) (some powerWhole) none
 categoryRule C.Negative type = some (λ a b. whole .neg a)
+categoryRule C.Pool type = none
 
 -- 22: "The component has no rule for this category kind"
 abbrev pub ruled : {X : Type 0} → Option (ℤ → ℤ → Result ℤ) → ((ℤ → ℤ → Result ℤ) → Result X) → Result X
@@ -75,10 +76,18 @@ module _ {X : Type 0} (same : X → X → Bool) (rule : X → X → Result X) wh
   unfoldable pub mapped : ℕ → List (List X) → Result (List (List X))
   mapped columns ls = each (each (λ a. rule a a)) (standardized same columns ls)
 
+-- 02, S-1: "Categories, bool too, are left's followed by right's, repeats gone"
+module _ {X : Type 0} (same : X → X → Bool) where
+  unfoldable pub union : List X → List X → Result (List X)
+  union us bs = ok (firsts same (us ++ bs))
+
+  unfoldable pub united : ℕ → List (List X) → List (List X) → Result (List (List X))
+  united columns ls ms = eachPair union (standardized same columns ls) (standardized same columns ms)
+
 -- 26: "The result holds over 128 categories, counted as they would be written"; tested only if no pair fails
-unfoldable pub counted : {X : Type 0} → ℕ → List (List X) → Result (List (List X))
-counted limit ls = cond (ltb limit (total ls)) (refused 26) (ok ls)
+unfoldable pub keptTo : ℕ → Nature → Result Nature
+keptTo limit k = cond (ltb limit (valueCount k)) (refused 26) (ok k)
 
 -- the nature of lists that keep to the limit
 abbrev pub limited : ℕ → Result (List (List ℤ)) → Result Nature
-limited limit g = andThen g (λ ls. andThen (counted limit ls) (λ ms. ok (wholeLists ms)))
+limited limit g = andThen g (λ ls. keptTo limit (wholeLists ls))

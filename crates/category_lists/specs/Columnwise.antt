@@ -9,14 +9,14 @@ use lib.Dec.{eqb}
 use Rattle.numbers.specs.Result.{Result, ok, andThen}
 use Rattle.utilities.specs.Lists.{firsts}
 use Rattle.utilities.specs.Columns.{each}
-use Rattle.base.specs.Form.{Form, byteAt, natureAt, wholeListsNature, listCount}
+use Rattle.base.specs.Form.{Form, byteAt, natureAt, isRangeNature, listCount}
 use Rattle.base.specs.Checks.{sizesFail}
 use Rattle.category_lists.specs.Categories.{product}
 
--- a sheet that passed 3, of whole categories, with lists: 20 is "A category operand has no lists"
+-- a sheet that passed 3, of categories, with lists: 20 is "A category operand has no lists"
 pub record Listed (F : Form) (s : List ℕ) : Type 0 where
   pub passed : sizesFail F s ≡ false
-  pub nature : byteAt F natureAt s ≡ wholeListsNature
+  pub no-range : isRangeNature (byteAt F natureAt s) ≡ false
   pub some : 0 < listCount F s
 
 -- one list stands for every column; of others, column j has list j

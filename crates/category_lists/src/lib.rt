@@ -9,19 +9,19 @@ use writer::Derived;
 use writer::Parts;
 ghost use mathlib.Core.Path.{_≡_};
 ghost use mathlib.Core.List.{List, []};
-ghost use Prim.Native.Nat.{ℕ, _+_, _*_, _≤_, _<_};
+ghost use Prim.Native.Nat.{ℕ, _+_, _*_, _^_, _≤_, _<_};
 ghost use lib.IntN.{ℤ};
-ghost use lib.ListN.{length, getD};
+ghost use lib.ListN.{length, take, getD};
 ghost use Rattle.numbers.specs.Result.{Result, ok};
 ghost use Rattle.numbers.specs.Kind.{fitting, eqZ};
-ghost use Rattle.utilities.specs.Lists.{firsts};
-ghost use Rattle.utilities.specs.Noted.{Begins, hintCount};
+ghost use Rattle.utilities.specs.Lists.{firsts, noted};
+ghost use Rattle.utilities.specs.Noted.{Begins, Hinting, hintCount};
 ghost use Rattle.base.specs.Form.{formOf, listCount};
 ghost use Rattle.base.specs.Decode.{asWhole, lists};
 ghost use Rattle.base.specs.Components.{familyOf};
 ghost use Rattle.base.specs.declared.Family.the-variants as Fam;
 ghost use Rattle.category_lists.specs.Categories.{absWhole, ruleOf};
-ghost use Rattle.category_lists.specs.Columnwise.{Listed, Reaches, Alike, pick, spreadOf};
+ghost use Rattle.category_lists.specs.Columnwise.{Listed, Reaches, Alike, pick, spreadOf, lesserOf};
 ghost use Rattle.category_lists.specs.Answers.{Arrays, Stored, Grown, Columns, gathered};
 
 // ---- the rules
@@ -105,6 +105,22 @@ pub fn column_list(f: Form, s: &[u8], j: usize, out: &mut [i64], hints: &mut [u8
     list_into(f, s, j, out, hints)
 }
 
+// ---- a result's list
+
+// A result goes behind the k that were noted, unless it is among them. Returns how many there are then, or one more than there is room for.
+pub fn note_result(store: &mut [i64], k: usize, v: i64, hints: &mut [u8]) -> usize
+    requires { ⌜ (k ≤ length (now store) + 1) × (length (now store) < 2 ^ 32) × Hinting (now hints) (take k (now store)) ⌝ }
+    ensures { λ r. ⌜ (r ≤ length (now (store .entry)) + 1) × Hinting (now (hints .exit)) (take r (now (store .exit))) × ((seen : List ℤ) → Stored k (now (store .entry)) seen → Stored r (now (store .exit)) (noted eqZ seen v)) ⌝ }
+{
+    if store.len() < k {
+        return k;
+    }
+    let Noted::At(m) = utilities::note_hinted(store, k, v, hints) else {
+        return k + 1;
+    };
+    m
+}
+
 // ---- the columns, gathered
 
 // List j, of k values, goes behind the t categories that were written. Returns how many there are then, or one more than the limit.
@@ -136,16 +152,16 @@ pub fn append_list(
     t + k
 }
 
-// n lists of t categories.
-pub fn gather(f: Form, n: usize, t: usize) -> Derived
+// n lists of t categories, of a nature.
+pub fn gather(f: Form, nature: u8, n: usize, t: usize) -> Derived
     requires { ⌜ (n ≤ formOf f .listLimit) × (t ≤ formOf f .categoryLimit + 1) ⌝ }
-    ensures { λ r. ⌜ r ≡ gathered (formOf f) n t ⌝ }
+    ensures { λ r. ⌜ r ≡ gathered (formOf f) nature n t ⌝ }
 {
     if f.category_limit() < t {
         return Derived::Refused(refusals::OVER_THE_LIMIT);
     }
     Derived::Nature(Parts {
-        nature: form::WHOLE_LISTS,
+        nature,
         entries: n,
         values: t,
         first: f.numbers_length(t),
@@ -197,4 +213,11 @@ pub fn spread(columns: usize, n: usize) -> usize
     ensures { λ r. ⌜ r ≡ spreadOf columns n ⌝ }
 {
     if n == 1 { columns } else { n }
+}
+
+// Pairing stops at the shorter.
+pub fn lesser(a: usize, b: usize) -> usize
+    ensures { λ r. ⌜ r ≡ lesserOf a b ⌝ }
+{
+    if a < b { a } else { b }
 }

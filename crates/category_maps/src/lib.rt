@@ -1,12 +1,13 @@
 // Categories mapped by Abs and Negative: from the lists of one sheet, the lists of the result, written into two lent buffers.
 use base::Component;
+use base::form;
 use base::form::Form;
 use base::refusals;
 use numbers::Checked;
 use writer::Derived;
 ghost use mathlib.Core.Path.{_≡_};
 ghost use mathlib.Core.Bool.{true};
-ghost use Prim.Native.Nat.{_+_, _≤_, _<_};
+ghost use Prim.Native.Nat.{_≤_, _<_};
 ghost use Rattle.numbers.specs.Kind.{eqZ};
 ghost use Rattle.base.specs.Form.{formOf, listCount};
 ghost use Rattle.base.specs.Decode.{asWhole, lists};
@@ -56,7 +57,7 @@ fn maps_into(
     if code != 0 {
         return Derived::Refused(code);
     }
-    category_lists::gather(f, n, t)
+    category_lists::gather(f, form::WHOLE_LISTS, n, t)
 }
 
 // Abs and Negative: left's lists mapped.

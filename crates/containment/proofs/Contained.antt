@@ -31,7 +31,7 @@ use Rattle.calls.specs.Derive.{derive}
 use Rattle.bytes.proofs.Reread.{AllBytes}
 use Rattle.plan_form.specs.Form.{nodeCount, leafCount, componentNumber, leftOf, rightOf}
 use Rattle.calls.specs.Walk.{sheetIn, plan}
-use Rattle.containment.specs.Exact.{Row, Results, exactOf, columnOf, leafResults, stepResults, nodeResults, resultsOf}
+use Rattle.containment.specs.Exact.{Side, Row, Results, exactOf, columnOf, leafResults, stepResults, nodeResults, resultsOf}
 use Rattle.containment.specs.Demand.{WholeNature, Suits, Premises, Inside, Claim, sheetOf, Contained}
 use Rattle.containment.specs.Good.{Fitting, Good, stepOf}
 use Rattle.containment.proofs.Nodes.{columns-are, good-made}
@@ -57,15 +57,16 @@ whole-fitting (floatLists ls) n h = h
 good-node : (z : ℤ) (s : Sheet) (rs : Results) → Good s rs → Good (withNode z s) rs
 good-node z s rs g = record { columns = g .columns; atLeastOne = g .atLeastOne; fits = g .fits; result = g .result }
 
-good-numbered : (c : Component) (k : ℕ) (s : Sheet) (xs ys : Results) → Good s (stepOf c s xs ys)
-    → Good (numbered (familyOf c) k s) (stepOf c (numbered (familyOf c) k s) xs ys)
+good-numbered : (side : Side) (c : Component) (k : ℕ) (s : Sheet) (xs ys : Results) → Good s (stepOf side c s xs ys)
+    → Good (numbered (familyOf c) k s) (stepOf side c (numbered (familyOf c) k s) xs ys)
 unfolding numbered
-good-numbered c k s xs ys g = go (familyOf c)
+good-numbered side c k s xs ys g = go (familyOf c)
   where
-    go : (f : Family) → Good (numbered f k s) (stepOf c (numbered f k s) xs ys)
+    go : (f : Family) → Good (numbered f k s) (stepOf side c (numbered f k s) xs ys)
     go Fam.Unary = g
     go Fam.Pair = good-node _ s _ g
     go Fam.Copy = g
+    go Fam.Pool = good-node _ s _ g
 
 -- ---- all nodes, in order
 
@@ -79,7 +80,7 @@ module _ (p : List ℕ) (sheet : ℕ → Sheet) (row : Row) where
 
   -- a node's results, by its operands'
   abbrev stepWith : ℕ → Results → Results → Results
-  stepWith k xs ys = listFrom (columnsOf (sheet k .fields)) 0 (λ j. exactOf (componentOf (componentNumber p k)) (columnOf xs j) (columnOf ys j))
+  stepWith k xs ys = listFrom (columnsOf (sheet k .fields)) 0 (λ j. exactOf (row .side k) (componentOf (componentNumber p k)) (columnOf xs j) (columnOf ys j))
 
   module _ (leaf : (k : ℕ) → k < leafCount p → Good (sheet k) (leafResults p sheet row k))
       (earlier : (k : ℕ) → leafCount p ≤ k → k < nodeCount p → (leftOf p k < k) × (rightOf p k < k))
@@ -161,12 +162,13 @@ module _ (p work after : List ℕ) (a : Accepted p work after) where
         let e : derive (narrow .categoryLimit) (d .component) l r ≡ ok (d .sheet) =
         ap₂ (λ (x y : Sheet). derive (narrow .categoryLimit) (d .component) x y) (sheet-after (leftOf p k)) (sheet-after (rightOf p k)) ∙ d .derived in
         let u = subst (λ (n : Numbered). Suits n l r) (d .listed) (h .components k b c) in
-        let s = good-numbered (d .component) k (d .sheet) xs ys (step-good (narrow .categoryLimit) (d .component) l r (d .sheet) xs ys e g f (h .operandColumns k b c) u) in
+        let side = row .side k in
+        let good = step-good side (narrow .categoryLimit) (d .component) l r (d .sheet) xs ys e g f (h .operandColumns k b c) u in
         let is = sheet-after k ∙ d .is in
         subst
-        (λ (n : Numbered). Good (sheetOf narrow p work after k) (listFrom (columnsOf (sheetOf narrow p work after k .fields)) 0 (λ j. exactOf n (columnOf xs j) (columnOf ys j))))
+        (λ (n : Numbered). Good (sheetOf narrow p work after k) (listFrom (columnsOf (sheetOf narrow p work after k .fields)) 0 (λ j. exactOf side n (columnOf xs j) (columnOf ys j))))
         (sym (d .listed))
-        (subst (λ (t : Sheet). Good t (stepOf (d .component) t xs ys)) (sym is) s)
+        (subst (λ (t : Sheet). Good t (stepOf side (d .component) t xs ys)) (sym is) (good-numbered side (d .component) k (d .sheet) xs ys good))
 
     accepted-claim : Claim p (sheetOf narrow p work after) row
     accepted-claim = claim p (sheetOf narrow p work after) row leaf-good (a .form .earlier) step-made

@@ -19,30 +19,31 @@ use Rattle.ends.specs.Ends.{endRule, unknown}
 use Rattle.ends.specs.Ranges.{wholeRule}
 use Rattle.category_lists.specs.Categories.{remainder}
 use Rattle.derived.proofs.Answers.{some-same, none-some}
-use Rattle.containment.specs.Exact.{unlessZero, exact}
+use Rattle.containment.specs.Exact.{Side, taken, unlessZero, exact}
 use Rattle.containment.specs.Demand.{AtLeast, AtMost, InSpan, SpanOffZero}
 use Rattle.containment.specs.Asks.{Defined, Asks, LowerAboveZero, LowerNotNegative}
 use Rattle.containment.proofs.Order.{≤-trans, lt-one, lt-minus}
 use Rattle.containment.proofs.Answers.{nothing}
-use Rattle.containment.proofs.Spans.{add-keeps, neg-keeps, abs-keeps, mul-keeps, div-keeps, mod-keeps}
+use Rattle.containment.proofs.Spans.{add-keeps, neg-keeps, abs-keeps, mul-keeps, div-keeps, mod-keeps, pool-keeps}
 
 -- ---- the result exists
 
 pub unless-some : (b r : ℤ) → (natAbs b ≡ 0 → ⊥) → unlessZero b r ≡ some r
 unless-some b r h = ap (λ (t : Bool). cond t none (some r)) (ne-eqb (natAbs b) 0 h)
 
-pub exact-exists : (c : Component) (a b : ℤ) → Defined c b → (v : ℤ) × (exact c a b ≡ some v)
+pub exact-exists : (side : Side) (c : Component) (a b : ℤ) → Defined c b → (v : ℤ) × (exact side c a b ≡ some v)
 unfolding exact
-exact-exists C.Abs a b d = (pos (natAbs a), refl)
-exact-exists C.Add a b d = (a +ℤ b, refl)
-exact-exists C.Subtract a b d = (a -ℤ b, refl)
-exact-exists C.Multiply a b d = (a *ℤ b, refl)
-exact-exists C.Divide a b d = (quotZ a b, unless-some b (quotZ a b) d)
-exact-exists C.Modulo a b d = (remainder a b, unless-some b (remainder a b) d)
-exact-exists C.Log a b d = absurd d
-exact-exists C.Power a (pos n) d = (pow a n, refl)
-exact-exists C.Power a (negsuc n) d = absurd (omega (arith, le-parts d))
-exact-exists C.Negative a b d = (negℤ a, refl)
+exact-exists side C.Abs a b d = (pos (natAbs a), refl)
+exact-exists side C.Add a b d = (a +ℤ b, refl)
+exact-exists side C.Subtract a b d = (a -ℤ b, refl)
+exact-exists side C.Multiply a b d = (a *ℤ b, refl)
+exact-exists side C.Divide a b d = (quotZ a b, unless-some b (quotZ a b) d)
+exact-exists side C.Modulo a b d = (remainder a b, unless-some b (remainder a b) d)
+exact-exists side C.Log a b d = absurd d
+exact-exists side C.Power a (pos n) d = (pow a n, refl)
+exact-exists side C.Power a (negsuc n) d = absurd (omega (arith, le-parts d))
+exact-exists side C.Negative a b d = (negℤ a, refl)
+exact-exists side C.Pool a b d = (taken side a b, refl)
 
 -- a number on one side of 0
 from-one : {b : ℤ} → pos 1 ≤ℤ b → natAbs b ≡ 0 → ⊥
@@ -91,6 +92,7 @@ span-defined C.Modulo o b k q = above-zero o b k q
 span-defined C.Log o b k q = k
 span-defined C.Power o b k q = not-negative o b k q
 span-defined C.Negative o b k q = tt
+span-defined C.Pool o b k q = tt
 
 -- ---- and keeps to the ends
 
@@ -104,9 +106,9 @@ unless-inv b r e = go (eqb (natAbs b) 0) e
     go true e = absurd (none-some e)
     go false e = e
 
-module _ (x y z : Span ℤ) (a b v : ℤ) where
+module _ (side : Side) (x y z : Span ℤ) (a b v : ℤ) where
   pub entry-keeps : (c : Component) → Asks c (some y) → endRule whole c x y ≡ ok z
-      → InSpan (some x) a → InSpan (some y) b → exact c a b ≡ some v → InSpan (some z) v
+      → InSpan (some x) a → InSpan (some y) b → exact side c a b ≡ some v → InSpan (some z) v
   unfolding endRule exact
   entry-keeps C.Abs k e p q w = keeps-same z w (abs-keeps a x z e p)
   entry-keeps C.Add k e p q w = keeps-same z w (add-keeps a b x y z e p q)
@@ -117,10 +119,11 @@ module _ (x y z : Span ℤ) (a b v : ℤ) where
   entry-keeps C.Log k e p q w = nothing z v e
   entry-keeps C.Power k e p q w = nothing z v e
   entry-keeps C.Negative k e p q w = keeps-same z w (neg-keeps a x z e p)
+  entry-keeps C.Pool k e p q w = keeps-same z w (pool-keeps a b side x y z e p q)
 
   -- of another type than Int, Modulo's ends are absent
   pub whole-keeps : (c : Component) (type : ℕ) → Asks c (some y) → wholeRule c type x y ≡ ok z
-      → InSpan (some x) a → InSpan (some y) b → exact c a b ≡ some v → InSpan (some z) v
+      → InSpan (some x) a → InSpan (some y) b → exact side c a b ≡ some v → InSpan (some z) v
   unfolding wholeRule
   whole-keeps C.Abs type k e p q w = entry-keeps C.Abs k e p q w
   whole-keeps C.Add type k e p q w = entry-keeps C.Add k e p q w
@@ -135,3 +138,4 @@ module _ (x y z : Span ℤ) (a b v : ℤ) where
   whole-keeps C.Log type k e p q w = entry-keeps C.Log k e p q w
   whole-keeps C.Power type k e p q w = entry-keeps C.Power k e p q w
   whole-keeps C.Negative type k e p q w = entry-keeps C.Negative k e p q w
+  whole-keeps C.Pool type k e p q w = entry-keeps C.Pool k e p q w

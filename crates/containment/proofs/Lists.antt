@@ -1,25 +1,29 @@
 -- Categories over the columns: list j of the answer has the exact result of any members of the operands' lists for column j. Assumes nothing.
 use mathlib.Core.Path.{_≡_, refl, sym, ap, subst, _∙_}
 use mathlib.Core.Bool.{Bool, true, false, cond}
-use mathlib.Core.List.{List, [], _∷_, map, List·Memᴰ, List·Memᴰ·head, List·Memᴰ·tail, Memᴰ·append-left, Memᴰ·append-right, Memᴰ·cast}
+use mathlib.Core.List.{List, [], _∷_, _++_, map, List·Memᴰ, List·Memᴰ·head, List·Memᴰ·tail, Memᴰ·append-left, Memᴰ·append-right, Memᴰ·cast}
 use mathlib.Core.Logic.{inl, inr, ⊎-elim}
-use mathlib.Core.Option.{Option, none, some}
+use mathlib.Core.Option.{some}
 use Prim.Native.Nat.{ℕ, zero, suc, _<_}
 use lib.Dec.{ltb}
 use lib.IntN.{ℤ}
 use lib.ListN.{length, length-map, getElem?}
+use Rattle.numbers.specs.Kind.{eqZ}
 use Rattle.numbers.specs.Result.{Result, ok, refused}
+use Rattle.numbers.proofs.Choices.{eqZ-true}
 use Rattle.numbers.proofs.Results.{never, then-ok-inv}
-use Rattle.utilities.specs.Lists.{firsts, repeated, standardized}
-use Rattle.utilities.specs.Columns.{each}
+use Rattle.utilities.specs.Lists.{firsts, standardized}
+use Rattle.utilities.specs.Columns.{each, eachPair}
 use Rattle.utilities.proofs.Members.{Equals, firsts-all}
-use Rattle.base.specs.Encode.{total}
+use Rattle.base.specs.Encode.{valueCount}
 use Rattle.base.specs.Sheet.{Nature, wholeLists}
 use Rattle.base.specs.declared.Component.{Component}
-use Rattle.category_lists.specs.Categories.{categoryRule, pairs, product, combined, mapped, counted, limited}
+use Rattle.base.specs.declared.Component.the-variants as C
+use Rattle.category_lists.specs.Categories.{categoryRule, pairs, product, mapped, union, keptTo, limited}
 use Rattle.derived.proofs.Answers.{ok-same, some-same}
-use Rattle.containment.specs.Exact.{exact}
+use Rattle.containment.specs.Exact.{Side, exact}
 use Rattle.containment.specs.Demand.{entryFor, InList, OneOrPerColumn}
+use Rattle.containment.proofs.Spans.{taken-is}
 use Rattle.containment.proofs.Rules.{rule-exact}
 use Rattle.containment.proofs.Columns.{Columnwise, column-keeps, spread-columns, each-twice}
 
@@ -59,7 +63,7 @@ pairs-found rule a b (u ∷ us) bs e (List·Memᴰ·tail m) n =
     (r .0, r .1, in-list (ok-same (t .after)) (Memᴰ·append-right (s .value) (r .2)))
 
 module _ {X : Type 0} (same : X → X → Bool) (equal : Equals same) where
-  product-found : (rule : X → X → Result X) (a b : X) (us bs : List X) {cs : List X}
+  pub product-found : (rule : X → X → Result X) (a b : X) (us bs : List X) {cs : List X}
       → product same rule us bs ≡ ok cs → List·Memᴰ a us → List·Memᴰ b bs → Found (rule a b) cs
   unfolding product
   product-found rule a b us bs e m n =
@@ -81,69 +85,54 @@ module _ {X : Type 0} (same : X → X → Bool) (equal : Equals same) where
 
 -- ---- over the columns
 
--- the rule's value is in the list for a column, if that list is stated
-abbrev pub FoundIn : {X : Type 0} → Result X → Option (List X) → Type 0
-FoundIn g none = ⊥
-FoundIn g (some l) = Found g l
-
 module _ {X : Type 0} (same : X → X → Bool) where
   same-count : (ls : List (List X)) (columns : ℕ) → OneOrPerColumn ls columns → OneOrPerColumn (map (firsts same) ls) columns
   same-count ls columns = ⊎-elim (λ h. inl (length-map ls (firsts same) ∙ h)) (λ h. inr (length-map ls (firsts same) ∙ h))
 
-  module _ (rule : X → X → Result X) (columns : ℕ) where
-    combined-columns : (ls ms : List (List X)) {ns : List (List X)} → OneOrPerColumn ls columns → OneOrPerColumn ms columns
-        → combined same rule columns ls ms ≡ ok ns → Columnwise (product same rule) columns (map (firsts same) ls) (map (firsts same) ms) ns
-    unfolding combined standardized
-    combined-columns ls ms o p e =
-        spread-columns (product same rule) columns (map (firsts same) ls) (map (firsts same) ms) (same-count ls columns o) (same-count ms columns p) e
+  -- an operation on the operands' lists of each column
+  module _ (op : List X → List X → Result (List X)) (columns : ℕ) (ls ms ns : List (List X)) (o : OneOrPerColumn ls columns) (p : OneOrPerColumn ms columns)
+      (e : eachPair op (standardized same columns ls) (standardized same columns ms) ≡ ok ns) where
+    paired-columns : Columnwise op columns (map (firsts same) ls) (map (firsts same) ms) ns
+    unfolding standardized
+    paired-columns = spread-columns op columns (map (firsts same) ls) (map (firsts same) ms) (same-count ls columns o) (same-count ms columns p) e
 
-    mapped-columns : (ls : List (List X)) {ns : List (List X)} → OneOrPerColumn ls columns → mapped same rule columns ls ≡ ok ns
-        → Columnwise (λ l m. each (λ a. rule a a) l) columns (map (firsts same) ls) (map (firsts same) ls) ns
-    unfolding mapped standardized
-    mapped-columns ls o e =
-        let n = same-count ls columns o in
-        spread-columns (λ l m. each (λ a. rule a a) l) columns (map (firsts same) ls) (map (firsts same) ls) n n
-        (sym (each-twice (λ l m. each (λ a. rule a a) l) (repeated columns (map (firsts same) ls))) ∙ e)
+    pub paired-many : length ns ≡ columns
+    paired-many = paired-columns .many
 
-    module _ (ls ms ns : List (List X)) (o : OneOrPerColumn ls columns) (p : OneOrPerColumn ms columns) (e : combined same rule columns ls ms ≡ ok ns) where
-      pub combined-many : length ns ≡ columns
-      combined-many = combined-columns ls ms o p e .many
+    -- v is in every list that the operation makes of lists with a and b
+    pub paired-keeps : Equals same → (a b v : X) → ((x y z : List X) → op x y ≡ ok z → List·Memᴰ a x → List·Memᴰ b y → List·Memᴰ v z)
+        → (j : ℕ) → j < columns → InList (entryFor ls j) a → InList (entryFor ms j) b → InList (entryFor ns j) v
+    paired-keeps equal a b v law j h m n =
+        column-keeps (λ k. InList k a) (λ k. InList k b) (λ k. InList k v) law (paired-columns .at j h) (entry-firsts same equal ls j a m) (entry-firsts same equal ms j b n)
 
-      pub combined-found : Equals same → (j : ℕ) (a b : X) → j < columns → InList (entryFor ls j) a → InList (entryFor ms j) b → FoundIn (rule a b) (entryFor ns j)
-      combined-found equal j a b h m n =
-          column-keeps (λ k. InList k a) (λ k. InList k b) (λ k. FoundIn (rule a b) k)
-          (λ x y z e m n. product-found same equal rule a b x y e m n)
-          (combined-columns ls ms o p e .at j h) (entry-firsts same equal ls j a m) (entry-firsts same equal ms j b n)
-
-    module _ (ls ns : List (List X)) (o : OneOrPerColumn ls columns) (e : mapped same rule columns ls ≡ ok ns) where
-      pub mapped-many : length ns ≡ columns
-      mapped-many = mapped-columns ls o e .many
-
-      pub mapped-found : Equals same → (j : ℕ) (a : X) → j < columns → InList (entryFor ls j) a → FoundIn (rule a a) (entryFor ns j)
-      mapped-found equal j a h m =
-          column-keeps (λ k. InList k a) (λ k. InList k a) (λ k. FoundIn (rule a a) k)
-          (λ x y z e m n. each-found (λ a. rule a a) a x e m)
-          (mapped-columns ls o e .at j h) (entry-firsts same equal ls j a m) (entry-firsts same equal ls j a m)
+  -- mapped lists, by an operation that reads the left alone
+  pub mapped-paired : (rule : X → X → Result X) (columns : ℕ) (ls : List (List X)) {ns : List (List X)} → mapped same rule columns ls ≡ ok ns
+      → eachPair (λ l m. each (λ a. rule a a) l) (standardized same columns ls) (standardized same columns ls) ≡ ok ns
+  unfolding mapped
+  mapped-paired rule columns ls e = sym (each-twice (λ l m. each (λ a. rule a a) l) (standardized same columns ls)) ∙ e
 
 -- what was found is the exact result
-pub found-exact : (c : Component) (type : ℕ) (rule : ℤ → ℤ → Result ℤ) (a b v : ℤ) (l : Option (List ℤ))
-    → categoryRule c type ≡ some rule → FoundIn (rule a b) l → exact c a b ≡ some v → InList l v
-found-exact c type rule a b v none e f w = tt
-found-exact c type rule a b v (some l) e f w =
-    Memᴰ·cast (some-same (sym w ∙ rule-exact a b c type e (f .1))) (f .2)
+pub found-exact : (side : Side) (c : Component) (type : ℕ) (rule : ℤ → ℤ → Result ℤ) (a b v : ℤ) (l : List ℤ)
+    → categoryRule c type ≡ some rule → Found (rule a b) l → exact side c a b ≡ some v → List·Memᴰ v l
+found-exact side c type rule a b v l e f w = Memᴰ·cast (some-same (sym w ∙ rule-exact side a b c type e (f .1))) (f .2)
+
+-- whichever side is taken is among left's and right's
+pub union-exact : (side : Side) (a b v : ℤ) (x y : List ℤ) {z : List ℤ} → union eqZ x y ≡ ok z
+    → List·Memᴰ a x → List·Memᴰ b y → exact side C.Pool a b ≡ some v → List·Memᴰ v z
+unfolding union exact
+union-exact side a b v x y e m n w =
+    let t = taken-is a b (λ n. List·Memᴰ n (x ++ y)) side (Memᴰ·append-left y m) (Memᴰ·append-right x n) in
+    in-list (ok-same e) (firsts-all eqZ eqZ-true v (x ++ y) (Memᴰ·cast (some-same (sym w)) t))
 
 -- ---- 26 changes nothing of what it passes
 
-counted-ok : {X : Type 0} (limit : ℕ) (ls : List (List X)) {ms : List (List X)} → counted limit ls ≡ ok ms → ls ≡ ms
-unfolding counted
-counted-ok {X} limit ls e = go (ltb limit (total ls)) e
+pub kept-ok : (limit : ℕ) (k : Nature) {n : Nature} → keptTo limit k ≡ ok n → k ≡ n
+unfolding keptTo
+kept-ok limit k e = go (ltb limit (valueCount k)) e
   where
-    go : (t : Bool) {ms : List (List X)} → cond t (refused 26) (ok ls) ≡ ok ms → ls ≡ ms
+    go : (t : Bool) {n : Nature} → cond t (refused 26) (ok k) ≡ ok n → k ≡ n
     go true e = absurd (never (sym e))
     go false e = ok-same e
 
-pub limited-ok : (limit : ℕ) (g : Result (List (List ℤ))) {k : Nature} → limited limit g ≡ ok k → (ls : List (List ℤ)) × (g ≡ ok ls) × (k ≡ wholeLists ls)
-limited-ok limit g e =
-    let s = then-ok-inv g _ e in
-    let t = then-ok-inv (counted limit (s .value)) _ (s .after) in
-    (s .value, s .is, sym (ok-same (t .after)) ∙ ap wholeLists (sym (counted-ok limit (s .value) (t .is))))
+pub limited-ok : (limit : ℕ) (g : Result (List (List ℤ))) {k : Nature} → limited limit g ≡ ok k → (ls : List (List ℤ)) × (g ≡ ok ls) × (wholeLists ls ≡ k)
+limited-ok limit g e = let s = then-ok-inv g _ e in (s .value, s .is, kept-ok limit (wholeLists (s .value)) (s .after))

@@ -10,21 +10,22 @@ use Rattle.numbers.specs.Kind.{Span, whole, eqZ}
 use Rattle.numbers.proofs.Choices.{eqZ-true}
 use Rattle.numbers.proofs.Parts.{abs-zero}
 use Rattle.numbers.proofs.Results.{never, then-ok-inv}
+use Rattle.utilities.specs.Columns.{each}
 use Rattle.base.specs.Sheet.{Nature, absent, wholeRange, floatRange, wholeLists, boolLists, floatLists}
 use Rattle.base.specs.declared.Component.{Component}
 use Rattle.base.specs.declared.Component.the-variants as C
 use Rattle.ends.specs.Ends.{endRule}
 use Rattle.ends.specs.Ranges.{wholeRule, rangePair, rangeAlone}
-use Rattle.category_lists.specs.Categories.{categoryRule, ruled, combined, mapped, limited}
-use Rattle.calls.specs.Natures.{listsPair, listsAlone, wholeRangeWith, listsWith, binaryNature, unaryNature}
+use Rattle.category_lists.specs.Categories.{categoryRule, ruled, product, combined, mapped, union, united, limited}
+use Rattle.calls.specs.Natures.{listsUnited, listsPair, listsAlone, wholeRangeWith, listsWith, twoNatures, binaryNature, poolNature, unaryNature}
 use Rattle.derived.proofs.Answers.{ok-same, checked-rest}
-use Rattle.containment.specs.Exact.{exact}
+use Rattle.containment.specs.Exact.{Side, exact}
 use Rattle.containment.specs.Demand.{entryFor, InList, Keeps, ListOffZero, OneOrPerColumn}
 use Rattle.containment.specs.Asks.{Defined, Asks}
 use Rattle.containment.specs.Good.{Fitting, Spread, Admitted}
 use Rattle.containment.proofs.Entries.{span-defined}
 use Rattle.containment.proofs.Ranges.{pair-many, pair-keeps, alone-many, alone-keeps}
-use Rattle.containment.proofs.Lists.{limited-ok, combined-many, combined-found, mapped-many, mapped-found, found-exact}
+use Rattle.containment.proofs.Lists.{each-found, product-found, paired-many, paired-keeps, mapped-paired, found-exact, union-exact, limited-ok}
 
 -- ---- what is admitted
 
@@ -38,6 +39,7 @@ admitted-asks C.Modulo xs ys j k = k
 admitted-asks C.Log xs ys j k = k
 admitted-asks C.Power xs ys j k = k
 admitted-asks C.Negative xs ys j k = tt
+admitted-asks C.Pool xs ys j k = tt
 
 list-off-zero : (o : Option (List ℤ)) (b : ℤ) → ListOffZero o → InList o b → natAbs b ≡ 0 → ⊥
 list-off-zero none b z q e = z
@@ -69,95 +71,127 @@ admitted-defined C.Power l (wholeLists ls) j b k q = absurd k
 admitted-defined C.Power l (boolLists ls) j b k q = absurd k
 admitted-defined C.Power l (floatLists ls) j b k q = absurd k
 admitted-defined C.Negative l r j b k q = tt
+admitted-defined C.Pool l r j b k q = tt
 
 -- ---- what is derived
 
-pub record Derived (c : Component) (columns : ℕ) (l r k : Nature) : Type 0 where
+pub record Derived (side : Side) (c : Component) (columns : ℕ) (l r k : Nature) : Type 0 where
   pub fits : Fitting k columns
-  pub keeps : (j : ℕ) → j < columns → (a b v : ℤ) → Admitted c l r j → Keeps l j a → Keeps r j b → exact c a b ≡ some v → Keeps k j v
+  pub keeps : (j : ℕ) → j < columns → (a b v : ℤ) → Admitted c l r j → Keeps l j a → Keeps r j b → exact side c a b ≡ some v → Keeps k j v
 
 ruled-inv : {X : Type 0} (o : Option (ℤ → ℤ → Result ℤ)) (rest : (ℤ → ℤ → Result ℤ) → Result X) {x : X} → ruled o rest ≡ ok x
     → (rule : ℤ → ℤ → Result ℤ) × (o ≡ some rule) × (rest rule ≡ ok x)
 ruled-inv none rest e = absurd (never (sym e))
 ruled-inv (some rule) rest e = (rule, refl, e)
 
-module _ (limit : ℕ) (c : Component) (type columns : ℕ) where
-  nothing : (l r : Nature) {k : Nature} → ok absent ≡ ok k → Derived c columns l r k
-  nothing l r e = subst (λ (k : Nature). Derived c columns l r k) (ok-same e) (record { fits = tt; keeps = λ j h a b v q p t w. tt })
+module _ (side : Side) (c : Component) (type columns : ℕ) where
+  nothing : (l r : Nature) {k : Nature} → ok absent ≡ ok k → Derived side c columns l r k
+  nothing l r e = subst (λ (k : Nature). Derived side c columns l r k) (ok-same e) (record { fits = tt; keeps = λ j h a b v q p t w. tt })
 
   ranges : (xs ys : List (Span ℤ)) {k : Nature} → andThen (rangePair (wholeRule c type) columns xs ys) (λ zs. ok (wholeRange zs)) ≡ ok k
-      → Derived c columns (wholeRange xs) (wholeRange ys) k
+      → Derived side c columns (wholeRange xs) (wholeRange ys) k
   ranges xs ys e =
       let s = then-ok-inv (rangePair (wholeRule c type) columns xs ys) _ e in
-      subst (λ (k : Nature). Derived c columns (wholeRange xs) (wholeRange ys) k) (ok-same (s .after))
+      subst (λ (k : Nature). Derived side c columns (wholeRange xs) (wholeRange ys) k) (ok-same (s .after))
       (record {
-        fits = inr (pair-many c columns xs ys (s .value) type (s .is));
-        keeps = λ j h a b v q p t w. pair-keeps c columns xs ys (s .value) type j a b v (s .is) h (admitted-asks c xs ys j q) p t w;
+        fits = inr (pair-many side c columns xs ys (s .value) type (s .is));
+        keeps = λ j h a b v q p t w. pair-keeps side c columns xs ys (s .value) type j a b v (s .is) h (admitted-asks c xs ys j q) p t w;
       })
 
-  lists : (ls ms : List (List ℤ)) {k : Nature} → OneOrPerColumn ls columns → OneOrPerColumn ms columns
-      → listsPair limit c type columns (wholeLists ls) (wholeLists ms) ≡ ok k → Derived c columns (wholeLists ls) (wholeLists ms) k
-  unfolding listsPair
-  lists ls ms o p e =
-      let f = ruled-inv (categoryRule c type) (λ rule. limited limit (combined eqZ rule columns ls ms)) (checked-rest _ _ e) in
-      let g = limited-ok limit (combined eqZ (f .0) columns ls ms) (f .2) in
-      subst (λ (k : Nature). Derived c columns (wholeLists ls) (wholeLists ms) k) (sym (g .2))
-      (record {
-        fits = inr (combined-many eqZ (f .0) columns ls ms (g .0) o p (g .1));
-        keeps = λ j h a b v q m n w.
-            found-exact c type (f .0) a b v (entryFor (g .0) j) (f .1) (combined-found eqZ (f .0) columns ls ms (g .0) o p (g .1) eqZ-true j a b h m n) w;
-      })
+  -- what two category operands make
+  abbrev Together : (Nature → Nature → Result Nature) → Type 0
+  Together together =
+      (ls ms : List (List ℤ)) (k : Nature) → OneOrPerColumn ls columns → OneOrPerColumn ms columns
+      → together (wholeLists ls) (wholeLists ms) ≡ ok k → Derived side c columns (wholeLists ls) (wholeLists ms) k
 
-  pub binary-derived : (l r : Nature) {k : Nature} → Spread l columns → Spread r columns
-      → binaryNature limit c type columns l r ≡ ok k → Derived c columns l r k
-  unfolding binaryNature wholeRangeWith listsWith
-  binary-derived absent r o p e = nothing absent r e
-  binary-derived (wholeRange xs) absent o p e = nothing (wholeRange xs) absent e
-  binary-derived (wholeRange xs) (wholeRange ys) o p e = ranges xs ys e
-  binary-derived (wholeRange xs) (floatRange ys) o p e = absurd p
-  binary-derived (wholeRange xs) (wholeLists ms) o p e = nothing (wholeRange xs) (wholeLists ms) e
-  binary-derived (wholeRange xs) (boolLists ms) o p e = absurd p
-  binary-derived (wholeRange xs) (floatLists ms) o p e = absurd p
-  binary-derived (floatRange xs) r o p e = absurd o
-  binary-derived (wholeLists ls) absent o p e = nothing (wholeLists ls) absent e
-  binary-derived (wholeLists ls) (wholeRange ys) o p e = nothing (wholeLists ls) (wholeRange ys) e
-  binary-derived (wholeLists ls) (floatRange ys) o p e = absurd p
-  binary-derived (wholeLists ls) (wholeLists ms) o p e = lists ls ms o p e
-  binary-derived (wholeLists ls) (boolLists ms) o p e = absurd p
-  binary-derived (wholeLists ls) (floatLists ms) o p e = absurd p
-  binary-derived (boolLists ls) r o p e = absurd o
-  binary-derived (floatLists ls) r o p e = absurd o
+  two-derived : (together : Nature → Nature → Result Nature) (l r : Nature) {k : Nature} → Together together → Spread l columns → Spread r columns
+      → twoNatures c type columns together l r ≡ ok k → Derived side c columns l r k
+  unfolding twoNatures wholeRangeWith listsWith
+  two-derived together absent r law o p e = nothing absent r e
+  two-derived together (wholeRange xs) absent law o p e = nothing (wholeRange xs) absent e
+  two-derived together (wholeRange xs) (wholeRange ys) law o p e = ranges xs ys e
+  two-derived together (wholeRange xs) (floatRange ys) law o p e = absurd p
+  two-derived together (wholeRange xs) (wholeLists ms) law o p e = nothing (wholeRange xs) (wholeLists ms) e
+  two-derived together (wholeRange xs) (boolLists ms) law o p e = absurd p
+  two-derived together (wholeRange xs) (floatLists ms) law o p e = absurd p
+  two-derived together (floatRange xs) r law o p e = absurd o
+  two-derived together (wholeLists ls) absent law o p e = nothing (wholeLists ls) absent e
+  two-derived together (wholeLists ls) (wholeRange ys) law o p e = nothing (wholeLists ls) (wholeRange ys) e
+  two-derived together (wholeLists ls) (floatRange ys) law o p e = absurd p
+  two-derived together (wholeLists ls) (wholeLists ms) {k} law o p e = law ls ms k o p e
+  two-derived together (wholeLists ls) (boolLists ms) law o p e = absurd p
+  two-derived together (wholeLists ls) (floatLists ms) law o p e = absurd p
+  two-derived together (boolLists ls) r law o p e = absurd o
+  two-derived together (floatLists ls) r law o p e = absurd o
 
-  -- a component that reads the left alone asks nothing of the right, and its result is the left's
-  module _ (r : Nature) (asks : (o : Option (Span ℤ)) → Asks c o) (left : (a b : ℤ) → exact c a a ≡ exact c a b) where
-    alone-range : (xs : List (Span ℤ)) {k : Nature} → andThen (rangeAlone (endRule whole c) columns xs) (λ zs. ok (wholeRange zs)) ≡ ok k
-        → Derived c columns (wholeRange xs) r k
-    alone-range xs e =
-        let s = then-ok-inv (rangeAlone (endRule whole c) columns xs) _ e in
-        subst (λ (k : Nature). Derived c columns (wholeRange xs) r k) (ok-same (s .after))
+  module _ (limit : ℕ) where
+    lists : Together (listsPair limit c type columns)
+    unfolding listsPair combined
+    lists ls ms k o p e =
+        let f = ruled-inv (categoryRule c type) (λ rule. limited limit (combined eqZ rule columns ls ms)) (checked-rest _ _ e) in
+        let g = limited-ok limit (combined eqZ (f .0) columns ls ms) (f .2) in
+        let op = product eqZ (f .0) in
+        subst (λ (k : Nature). Derived side c columns (wholeLists ls) (wholeLists ms) k) (g .2)
         (record {
-          fits = inr (alone-many c columns xs (s .value) (s .is));
-          keeps = λ j h a b v q p t w. alone-keeps c columns xs (s .value) (s .is) j a v h (asks (entryFor xs j)) p (left a b ∙ w);
-        })
-
-    alone-lists : (ls : List (List ℤ)) {k : Nature} → OneOrPerColumn ls columns → listsAlone limit c type columns (wholeLists ls) ≡ ok k
-        → Derived c columns (wholeLists ls) r k
-    unfolding listsAlone
-    alone-lists ls o e =
-        let f = ruled-inv (categoryRule c type) (λ rule. limited limit (mapped eqZ rule columns ls)) (checked-rest _ _ e) in
-        let g = limited-ok limit (mapped eqZ (f .0) columns ls) (f .2) in
-        subst (λ (k : Nature). Derived c columns (wholeLists ls) r k) (sym (g .2))
-        (record {
-          fits = inr (mapped-many eqZ (f .0) columns ls (g .0) o (g .1));
+          fits = inr (paired-many eqZ op columns ls ms (g .0) o p (g .1));
           keeps = λ j h a b v q m n w.
-              found-exact c type (f .0) a a v (entryFor (g .0) j) (f .1) (mapped-found eqZ (f .0) columns ls (g .0) o (g .1) eqZ-true j a h m) (left a b ∙ w);
+              paired-keeps eqZ op columns ls ms (g .0) o p (g .1) eqZ-true a b v
+              (λ x y z e m n. found-exact side c type (f .0) a b v z (f .1) (product-found eqZ eqZ-true (f .0) a b x y e m n) w) j h m n;
         })
 
-    pub unary-derived : (l : Nature) {k : Nature} → Spread l columns → unaryNature limit c type columns l ≡ ok k → Derived c columns l r k
-    unfolding unaryNature
-    unary-derived absent o e = nothing absent r e
-    unary-derived (wholeRange xs) o e = alone-range xs e
-    unary-derived (floatRange xs) o e = absurd o
-    unary-derived (wholeLists ls) o e = alone-lists ls o e
-    unary-derived (boolLists ls) o e = absurd o
-    unary-derived (floatLists ls) o e = absurd o
+    pub binary-derived : (l r : Nature) {k : Nature} → Spread l columns → Spread r columns
+        → binaryNature limit c type columns l r ≡ ok k → Derived side c columns l r k
+    binary-derived l r = two-derived (listsPair limit c type columns) l r lists
+
+    -- a component that reads the left alone asks nothing of the right, and its result is the left's
+    module _ (r : Nature) (asks : (o : Option (Span ℤ)) → Asks c o) (left : (a b : ℤ) → exact side c a a ≡ exact side c a b) where
+      alone-range : (xs : List (Span ℤ)) {k : Nature} → andThen (rangeAlone (endRule whole c) columns xs) (λ zs. ok (wholeRange zs)) ≡ ok k
+          → Derived side c columns (wholeRange xs) r k
+      alone-range xs e =
+          let s = then-ok-inv (rangeAlone (endRule whole c) columns xs) _ e in
+          subst (λ (k : Nature). Derived side c columns (wholeRange xs) r k) (ok-same (s .after))
+          (record {
+            fits = inr (alone-many side c columns xs (s .value) (s .is));
+            keeps = λ j h a b v q p t w. alone-keeps side c columns xs (s .value) (s .is) j a v h (asks (entryFor xs j)) p (left a b ∙ w);
+          })
+
+      alone-lists : (ls : List (List ℤ)) {k : Nature} → OneOrPerColumn ls columns → listsAlone limit c type columns (wholeLists ls) ≡ ok k
+          → Derived side c columns (wholeLists ls) r k
+      unfolding listsAlone
+      alone-lists ls o e =
+          let f = ruled-inv (categoryRule c type) (λ rule. limited limit (mapped eqZ rule columns ls)) (checked-rest _ _ e) in
+          let g = limited-ok limit (mapped eqZ (f .0) columns ls) (f .2) in
+          let op : List ℤ → List ℤ → Result (List ℤ) = λ l m. each (λ a. f .0 a a) l in
+          let e = mapped-paired eqZ (f .0) columns ls (g .1) in
+          subst (λ (k : Nature). Derived side c columns (wholeLists ls) r k) (g .2)
+          (record {
+            fits = inr (paired-many eqZ op columns ls ls (g .0) o o e);
+            keeps = λ j h a b v q m n w.
+                paired-keeps eqZ op columns ls ls (g .0) o o e eqZ-true a a v
+                (λ x y z e m n. found-exact side c type (f .0) a a v z (f .1) (each-found (λ a. f .0 a a) a x e m) (left a b ∙ w)) j h m m;
+          })
+
+      pub unary-derived : (l : Nature) {k : Nature} → Spread l columns → unaryNature limit c type columns l ≡ ok k → Derived side c columns l r k
+      unfolding unaryNature
+      unary-derived absent o e = nothing absent r e
+      unary-derived (wholeRange xs) o e = alone-range xs e
+      unary-derived (floatRange xs) o e = absurd o
+      unary-derived (wholeLists ls) o e = alone-lists ls o e
+      unary-derived (boolLists ls) o e = absurd o
+      unary-derived (floatLists ls) o e = absurd o
+
+module _ (side : Side) (type columns : ℕ) where
+  unions : Together side C.Pool type columns (listsUnited columns)
+  unfolding listsUnited united
+  unions ls ms k o p e =
+      let s = then-ok-inv (united eqZ columns ls ms) _ (checked-rest _ _ e) in
+      subst (λ (k : Nature). Derived side C.Pool columns (wholeLists ls) (wholeLists ms) k) (ok-same (s .after))
+      (record {
+        fits = inr (paired-many eqZ (union eqZ) columns ls ms (s .value) o p (s .is));
+        keeps = λ j h a b v q m n w.
+            paired-keeps eqZ (union eqZ) columns ls ms (s .value) o p (s .is) eqZ-true a b v (λ x y z e m n. union-exact side a b v x y e m n w) j h m n;
+      })
+
+  pub pool-derived : (l r : Nature) {k : Nature} → Spread l columns → Spread r columns
+      → poolNature C.Pool type columns l r ≡ ok k → Derived side C.Pool columns l r k
+  pool-derived l r = two-derived side C.Pool type columns (listsUnited columns) l r unions

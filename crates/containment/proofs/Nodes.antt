@@ -18,7 +18,7 @@ use Rattle.base.specs.Sheet.{Sheet, Nature, absent, wholeRange, floatRange, who
 use Rattle.base.specs.declared.Component.{Component}
 use Rattle.base.specs.declared.Numbered.the-variants as N
 use Rattle.shape.specs.Shape.{columnsOf}
-use Rattle.containment.specs.Exact.{Results, columnOf, exactOf}
+use Rattle.containment.specs.Exact.{Side, Results, columnOf, exactOf}
 use Rattle.containment.specs.Demand.{InSpan, InList, Keeps, SpanOffZero, ListOffZero, OffZero, OneOrPerColumn}
 use Rattle.containment.specs.Good.{Fitting, Spread, Admitted, Good, stepOf}
 use Rattle.containment.proofs.Columns.{entry-one}
@@ -107,15 +107,15 @@ good-made s n f e o k g =
         (r .0, listFrom-at f (columnsOf (s .fields)) 0 j none (omega arith) ∙ ap f (zero-add j) ∙ r .1, r .2)
 
 -- a step's node, of its operands' nodes and of the nature derived
-module _ (c : Component) (l r s : Sheet) (xs ys : Results) (n : ℕ) where
-  pub good-step : Good l xs → Good r ys → s .fields .columns ≡ some n → 1 ≤ n → Derived c n (l .nature) (r .nature) (s .nature)
+module _ (side : Side) (c : Component) (l r s : Sheet) (xs ys : Results) (n : ℕ) where
+  pub good-step : Good l xs → Good r ys → s .fields .columns ≡ some n → 1 ≤ n → Derived side c n (l .nature) (r .nature) (s .nature)
       → ((j : ℕ) → j < n → Reaches (length xs) j) → ((j : ℕ) → j < n → Reaches (length ys) j) → ((j : ℕ) → j < n → Admitted c (l .nature) (r .nature) j)
-      → Good s (stepOf c s xs ys)
-  good-step g h e o d p q k = good-made s n (λ j. exactOf (N.Is c) (columnOf xs j) (columnOf ys j)) e o (d .fits) at
+      → Good s (stepOf side c s xs ys)
+  good-step g h e o d p q k = good-made s n (λ j. exactOf side (N.Is c) (columnOf xs j) (columnOf ys j)) e o (d .fits) at
     where
-      at : (j : ℕ) → j < n → (v : ℤ) × (exactOf (N.Is c) (columnOf xs j) (columnOf ys j) ≡ some v) × Keeps (s .nature) j v
+      at : (j : ℕ) → j < n → (v : ℤ) × (exactOf side (N.Is c) (columnOf xs j) (columnOf ys j) ≡ some v) × Keeps (s .nature) j v
       at j i =
           let a = good-column g j (p j i) in
           let b = good-column h j (q j i) in
-          let v = exact-exists c (a .0) (b .0) (admitted-defined c (l .nature) (r .nature) j (b .0) (k j i) (b .2)) in
-          (v .0, ap₂ (λ (x y : Option ℤ). exactOf (N.Is c) x y) (a .1) (b .1) ∙ v .1, d .keeps j i (a .0) (b .0) (v .0) (k j i) (a .2) (b .2) (v .1))
+          let v = exact-exists side c (a .0) (b .0) (admitted-defined c (l .nature) (r .nature) j (b .0) (k j i) (b .2)) in
+          (v .0, ap₂ (λ (x y : Option ℤ). exactOf side (N.Is c) x y) (a .1) (b .1) ∙ v .1, d .keeps j i (a .0) (b .0) (v .0) (k j i) (a .2) (b .2) (v .1))

@@ -16,7 +16,7 @@ use Rattle.base.specs.declared.Component.{Component}
 use Rattle.base.specs.declared.Component.the-variants as C
 use Rattle.category_lists.specs.Categories.{remainder, modWhole, powerWhole, categoryRule}
 use Rattle.derived.proofs.Answers.{ok-same, some-same, none-some}
-use Rattle.containment.specs.Exact.{exact}
+use Rattle.containment.specs.Exact.{Side, exact}
 use Rattle.containment.proofs.Spans.{quotient-inv}
 use Rattle.containment.proofs.Entries.{unless-some}
 
@@ -24,44 +24,45 @@ cond-ok : (t : Bool) (k : ℕ) {n v : ℤ} → cond t (ok n) (refused k) ≡ ok 
 cond-ok true k e = ok-same e
 cond-ok false k e = absurd (never (sym e))
 
-power-exact : (a b : ℤ) {v : ℤ} → powerWhole a b ≡ ok v → exact C.Power a b ≡ some v
+power-exact : (side : Side) (a b : ℤ) {v : ℤ} → powerWhole a b ≡ ok v → exact side C.Power a b ≡ some v
 unfolding exact
-power-exact a (pos n) e = ap some (cond-ok (inRange (pow a n)) 25 e)
-power-exact a (negsuc n) e = absurd (never (sym e))
+power-exact side a (pos n) e = ap some (cond-ok (inRange (pow a n)) 25 e)
+power-exact side a (negsuc n) e = absurd (never (sym e))
 
-mod-exact : (a b : ℤ) {v : ℤ} → modWhole a b ≡ ok v → exact C.Modulo a b ≡ some v
+mod-exact : (side : Side) (a b : ℤ) {v : ℤ} → modWhole a b ≡ ok v → exact side C.Modulo a b ≡ some v
 unfolding exact
-mod-exact a b e = go (eqb (natAbs b) 0) e
+mod-exact side a b e = go (eqb (natAbs b) 0) e
   where
     go : (t : Bool) {v : ℤ} → cond t (refused 24) (ok (remainder a b)) ≡ ok v → cond t none (some (remainder a b)) ≡ some v
     go true e = absurd (never (sym e))
     go false e = ap some (ok-same e)
 
-div-exact : (a b : ℤ) {v : ℤ} → whole .div a b ≡ ok v → exact C.Divide a b ≡ some v
+div-exact : (side : Side) (a b : ℤ) {v : ℤ} → whole .div a b ≡ ok v → exact side C.Divide a b ≡ some v
 unfolding exact
-div-exact a b e = let h = quotient-inv a b e in unless-some b (quotZ a b) (h .0) ∙ ap some (sym (h .1))
+div-exact side a b e = let h = quotient-inv a b e in unless-some b (quotZ a b) (h .0) ∙ ap some (sym (h .1))
 
-module _ {rule : ℤ → ℤ → Result ℤ} (a b : ℤ) where
+module _ (side : Side) {rule : ℤ → ℤ → Result ℤ} (a b : ℤ) where
   -- a rule that was chosen
   chosen : {f : ℤ → ℤ → Result ℤ} {v : ℤ} → _≡_ {A = Option (ℤ → ℤ → Result ℤ)} (some f) (some rule) → rule a b ≡ ok v → f a b ≡ ok v
   chosen {f} e r = ap (λ (g : ℤ → ℤ → Result ℤ). g a b) (some-same e) ∙ r
 
-  pub rule-exact : (c : Component) (type : ℕ) {v : ℤ} → categoryRule c type ≡ some rule → rule a b ≡ ok v → exact c a b ≡ some v
+  pub rule-exact : (c : Component) (type : ℕ) {v : ℤ} → categoryRule c type ≡ some rule → rule a b ≡ ok v → exact side c a b ≡ some v
   unfolding categoryRule exact
   rule-exact C.Abs type e r = ap some (sym (exactly (pos (natAbs a)) (chosen e r)))
   rule-exact C.Add type e r = ap some (sym (exactly (a +ℤ b) (chosen e r)))
   rule-exact C.Subtract type e r = ap some (sym (exactly (a -ℤ b) (chosen e r)))
   rule-exact C.Multiply type e r = ap some (sym (exactly (a *ℤ b) (chosen e r)))
-  rule-exact C.Divide type e r = div-exact a b (chosen e r)
+  rule-exact C.Divide type e r = div-exact side a b (chosen e r)
   rule-exact C.Modulo type {v} e r = go (eqb type intType) e
     where
-      go : (t : Bool) → cond t (some modWhole) none ≡ some rule → exact C.Modulo a b ≡ some v
-      go true e = mod-exact a b (chosen e r)
+      go : (t : Bool) → cond t (some modWhole) none ≡ some rule → exact side C.Modulo a b ≡ some v
+      go true e = mod-exact side a b (chosen e r)
       go false e = absurd (none-some e)
   rule-exact C.Log type e r = absurd (none-some e)
   rule-exact C.Power type {v} e r = go (eqb type intType) e
     where
-      go : (t : Bool) → cond t (some powerWhole) none ≡ some rule → exact C.Power a b ≡ some v
-      go true e = power-exact a b (chosen e r)
+      go : (t : Bool) → cond t (some powerWhole) none ≡ some rule → exact side C.Power a b ≡ some v
+      go true e = power-exact side a b (chosen e r)
       go false e = absurd (none-some e)
   rule-exact C.Negative type e r = ap some (sym (exactly (negℤ a) (chosen e r)))
+  rule-exact C.Pool type e r = absurd (none-some e)

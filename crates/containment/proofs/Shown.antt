@@ -1,12 +1,12 @@
--- The plan of `specs/Shown` is accepted and meets every premise of demand 3, and its row is inside: the demand does not speak of nothing.
+-- The plan of `specs/Shown` is accepted and meets every premise of demand 3, and its rows are inside: the demand does not speak of nothing.
 --     answered     the call's reply, and every byte that it leaves
 --     small        the work buffer is of bytes
 --     premises     the plan meets the premises
---     inside       the row keeps to the leaves
+--     inside       a row of these numbers keeps to the leaves, whichever sides it takes
 --     every-row    so the claim holds of every row inside, by `contained`,
---     claimed      and of this one
---     results      every exact result of the row
---     reached      column 0 of the last node: the result is 7, and so is the upper end that its sheet states
+--     claimed      and of these
+--     results      every exact result of both rows, which differ at the Pool steps alone and at what is made of them
+--     reached      column 0 of node 12: the result is 7, and so is the upper end that its sheet states
 -- By computation, but for `contained`. Assumes nothing.
 use mathlib.Core.Path.{_≡_, refl, sym, ap, subst}
 use mathlib.Core.Bool.{Bool, true, false}
@@ -33,9 +33,9 @@ use Rattle.round_trip.specs.WellFormed.{Each}
 use Rattle.bytes.proofs.Reread.{AllBytes}
 use Rattle.plan_form.specs.Form.{nodeCount, leafCount, stepCount, componentNumber, leftOf, rightOf, planFails, stepPermitted}
 use Rattle.calls.specs.Walk.{plan, walk, stepOn, sheetIn, leavesThen, leafNodes, stepNodes}
-use Rattle.containment.specs.Exact.{Row, Results, exact, resultsOf, resultAt}
+use Rattle.containment.specs.Exact.{Side, Row, Results, exact, resultsOf, resultAt}
 use Rattle.containment.specs.Demand.{entryFor, Keeps, StatesColumns, WholeNature, ColumnsMatch, OffZero, Suits, Premises, Inside, Claim, sheetOf}
-use Rattle.containment.specs.Shown.{shownPlan, shownLeaves, shownSteps, between, slotsOf, shownWork, shownAfter, shownSheet, shownNumbers, shownRow, shownResults}
+use Rattle.containment.specs.Shown.{shownPlan, shownLeaves, shownSteps, between, slotsOf, shownWork, shownAfter, shownSheet, shownNumbers, rowTaking, shownRow, oppositeRow, commonResults, shownResults, oppositeResults}
 use Rattle.containment.proofs.Contained.{contained}
 
 -- ---- the call
@@ -112,7 +112,7 @@ leaf-natures = (inl refl, (inl refl, (inr refl, (inl refl, (inl refl, tt)))))
 
 operand-columns : Each OperandColumns (stepNodes narrow shownPlan)
 unfolding reading
-operand-columns = (inr (inr refl), (inl refl, (inr (inr refl), (inl refl, (inl refl, (inr (inr refl), (inl refl, (inl refl, tt))))))))
+operand-columns = (inr (inr refl), (inl refl, (inr (inr refl), (inl refl, (inl refl, (inr (inr refl), (inl refl, (inl refl, (inl refl, (inl refl, (inl refl, tt)))))))))))
 
 -- Divide's divisor has its lower above 0 in the first column, its upper below 0 in the second
 off-zero : (j : ℕ) → j < 2 → OffZero (sheet 2 .nature) j
@@ -122,7 +122,7 @@ off-zero = both (OffZero (sheet 2 .nature)) (inl (pos 2, refl, record { lt = tt 
 -- Divide is the second step; Subtract, the fifth, joins categories; Power, the sixth, has Int operands
 components-suit : Each ComponentSuits (stepNodes narrow shownPlan)
 unfolding reading
-components-suit = (tt, (off-zero, (tt, (tt, ((λ l r. l), ((refl, refl), (tt, (tt, tt))))))))
+components-suit = (tt, (off-zero, (tt, (tt, ((λ l r. l), ((refl, refl), (tt, (tt, (tt, (tt, (tt, tt)))))))))))
 
 sheets-meet : Premises shownPlan sheet
 unfolding reading
@@ -133,35 +133,40 @@ sheets-meet = record {
   components = λ k a b. each-node ComponentSuits (stepCount shownPlan) (leafCount shownPlan) components-suit k a b;
 }
 
--- ---- the row
+-- ---- the rows
 
-abbrev Kept : ℕ → ℕ → Type 0
-Kept k j = Keeps (sheet k .nature) j (shownRow .number k j)
+module _ (x y : Side) where
+  abbrev Kept : ℕ → ℕ → Type 0
+  Kept k j = Keeps (sheet k .nature) j (rowTaking x y .number k j)
 
-abbrev LeafKept : ℕ → Type 0
-LeafKept k = (j : ℕ) → j < columnsOf (sheet k .fields) → Kept k j
+  abbrev LeafKept : ℕ → Type 0
+  LeafKept k = (j : ℕ) → j < columnsOf (sheet k .fields) → Kept k j
 
-numbers-keep : Each LeafKept (leafNodes narrow shownPlan)
-unfolding reading entryFor shownNumbers shownRow
-numbers-keep =
-    let first = both (Kept 0) (record { le = tt }, record { le = tt }) (record { le = tt }, record { le = tt }) in
-    let second = only (Kept 1) (record { le = tt }, record { le = tt }) in
-    let divisor = both (Kept 2) (record { le = tt }, record { le = tt }) (record { le = tt }, record { le = tt }) in
-    let fourth = only (Kept 3) (List·Memᴰ·tail (List·Memᴰ·head refl)) in
-    let fifth = only (Kept 4) (List·Memᴰ·tail (List·Memᴰ·head refl)) in
-    (first, (second, (divisor, (fourth, (fifth, tt)))))
+  numbers-keep : Each LeafKept (leafNodes narrow shownPlan)
+  unfolding reading entryFor shownNumbers rowTaking
+  numbers-keep =
+      let first = both (Kept 0) (record { le = tt }, record { le = tt }) (record { le = tt }, record { le = tt }) in
+      let second = only (Kept 1) (record { le = tt }, record { le = tt }) in
+      let divisor = both (Kept 2) (record { le = tt }, record { le = tt }) (record { le = tt }, record { le = tt }) in
+      let fourth = only (Kept 3) (List·Memᴰ·tail (List·Memᴰ·head refl)) in
+      let fifth = only (Kept 4) (List·Memᴰ·tail (List·Memᴰ·head refl)) in
+      (first, (second, (divisor, (fourth, (fifth, tt)))))
 
-row-inside : Inside shownPlan sheet shownRow
+  row-inside : Inside shownPlan sheet (rowTaking x y)
+  unfolding reading
+  row-inside = record { leaf = λ k h. each-node LeafKept (leafCount shownPlan) 0 numbers-keep k zero-le h }
+
+-- a row's results, of every node
+abbrev resultsOn : (ℕ → Sheet) → Row → List Results
+resultsOn s row = resultsOf shownPlan s row (nodeCount shownPlan)
+
+sheet-results : (resultsOn sheet shownRow ≡ shownResults) × (resultsOn sheet oppositeRow ≡ oppositeResults)
+unfolding resultsOf exact pow one shownNumbers rowTaking commonResults shownResults oppositeResults reading
+sheet-results = (refl, refl)
+
+stated : sheet 12 .nature ≡ wholeRange (between (minus 5) (pos 7) ∷ between (minus 5) (pos 5) ∷ [])
 unfolding reading
-row-inside = record { leaf = λ k h. each-node LeafKept (leafCount shownPlan) 0 numbers-keep k zero-le h }
-
-sheet-results : resultsOf shownPlan sheet shownRow (nodeCount shownPlan) ≡ shownResults
-unfolding resultsOf exact pow one shownNumbers shownRow shownResults reading
-sheet-results = refl
-
-last-nature : sheet 12 .nature ≡ wholeRange (between (minus 5) (pos 7) ∷ between (minus 5) (pos 5) ∷ [])
-unfolding reading
-last-nature = refl
+stated = refl
 
 -- ---- demand 3
 
@@ -173,23 +178,23 @@ after-call P h = subst (λ (after : List ℕ). P (λ k. sheetOf narrow shownPlan
 pub premises : Premises shownPlan shownSheet
 premises = after-call (Premises shownPlan) sheets-meet
 
-pub inside : Inside shownPlan shownSheet shownRow
-inside = after-call (λ s. Inside shownPlan s shownRow) row-inside
+pub inside : (x y : Side) → Inside shownPlan shownSheet (rowTaking x y)
+inside x y = after-call (λ s. Inside shownPlan s (rowTaking x y)) (row-inside x y)
 
 pub every-row : (row : Row) → Inside shownPlan shownSheet row → Claim shownPlan shownSheet row
 every-row = contained shownPlan shownWork small accepted premises
 
-pub claimed : Claim shownPlan shownSheet shownRow
-claimed = every-row shownRow inside
+pub claimed : (x y : Side) → Claim shownPlan shownSheet (rowTaking x y)
+claimed x y = every-row (rowTaking x y) (inside x y)
 
-pub results : resultsOf shownPlan shownSheet shownRow (nodeCount shownPlan) ≡ shownResults
-results = after-call (λ s. resultsOf shownPlan s shownRow (nodeCount shownPlan) ≡ shownResults) sheet-results
+pub results : (resultsOn shownSheet shownRow ≡ shownResults) × (resultsOn shownSheet oppositeRow ≡ oppositeResults)
+results = after-call (λ s. (resultsOn s shownRow ≡ shownResults) × (resultsOn s oppositeRow ≡ oppositeResults)) sheet-results
 
-last-result : resultAt shownPlan shownSheet shownRow 12 0 ≡ some (pos 7)
-unfolding shownResults
-last-result = ap (λ (rs : List Results). getD (getD rs 12 []) 0 none) results
+result-is : resultAt shownPlan shownSheet shownRow 12 0 ≡ some (pos 7)
+unfolding commonResults shownResults
+result-is = ap (λ (rs : List Results). getD (getD rs 12 []) 0 none) (results .0)
 
 pub reached :
     (resultAt shownPlan shownSheet shownRow 12 0 ≡ some (pos 7))
     × (shownSheet 12 .nature ≡ wholeRange (between (minus 5) (pos 7) ∷ between (minus 5) (pos 5) ∷ []))
-reached = (last-result, after-call (λ s. s 12 .nature ≡ wholeRange (between (minus 5) (pos 7) ∷ between (minus 5) (pos 5) ∷ [])) last-nature)
+reached = (result-is, after-call (λ s. s 12 .nature ≡ wholeRange (between (minus 5) (pos 7) ∷ between (minus 5) (pos 5) ∷ [])) stated)

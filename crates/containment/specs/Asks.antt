@@ -21,6 +21,7 @@ Defined C.Modulo b = natAbs b ≡ 0 → ⊥
 Defined C.Log b = ⊥
 Defined C.Power b = pos 0 ≤ℤ b
 Defined C.Negative b = Unit {0}
+Defined C.Pool b = Unit {0}
 
 abbrev pub LowerAboveZero : Option (Span ℤ) → Type 0
 LowerAboveZero none = ⊥
@@ -41,3 +42,4 @@ Asks C.Modulo y = LowerAboveZero y
 Asks C.Log y = ⊥
 Asks C.Power y = LowerNotNegative y
 Asks C.Negative y = Unit {0}
+Asks C.Pool y = Unit {0}

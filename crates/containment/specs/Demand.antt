@@ -117,6 +117,7 @@ Suits (N.Is C.Modulo) l r = Unit {0}
 Suits (N.Is C.Log) l r = Unit {0}
 Suits (N.Is C.Power) l r = (l .fields .dataType ≡ intType) × (r .fields .dataType ≡ intType)
 Suits (N.Is C.Negative) l r = Unit {0}
+Suits (N.Is C.Pool) l r = Unit {0}
 
 -- of a plan's bytes and its nodes' sheets
 pub record Premises (p : List ℕ) (sheet : ℕ → Sheet) : Type 0 where

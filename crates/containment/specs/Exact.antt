@@ -27,28 +27,39 @@ abbrev pub power : ℤ → ℤ → Option ℤ
 power a (pos n) = some (pow a n)
 power a (negsuc n) = none
 
+-- 02, S-1: "a pooled node may take either operand's value, one operand for the whole row"
+pub data Side : Type 0 where
+  fromLeft : Side
+  fromRight : Side
+
+abbrev pub taken : Side → ℤ → ℤ → ℤ
+taken fromLeft a b = a
+taken fromRight a b = b
+
 -- 01: "1 to 4, 8 and 9 work as named; quotients truncate toward zero, remainders are never negative and are below the divisor's magnitude"; "Log .. leaves none"
-unfoldable pub exact : Component → ℤ → ℤ → Option ℤ
-exact C.Abs a b = some (pos (natAbs a))
-exact C.Add a b = some (a +ℤ b)
-exact C.Subtract a b = some (a -ℤ b)
-exact C.Multiply a b = some (a *ℤ b)
-exact C.Divide a b = unlessZero b (quotZ a b)
-exact C.Modulo a b = unlessZero b (remainder a b)
-exact C.Log a b = none
-exact C.Power a b = power a b
-exact C.Negative a b = some (negℤ a)
+unfoldable pub exact : Side → Component → ℤ → ℤ → Option ℤ
+exact side C.Abs a b = some (pos (natAbs a))
+exact side C.Add a b = some (a +ℤ b)
+exact side C.Subtract a b = some (a -ℤ b)
+exact side C.Multiply a b = some (a *ℤ b)
+exact side C.Divide a b = unlessZero b (quotZ a b)
+exact side C.Modulo a b = unlessZero b (remainder a b)
+exact side C.Log a b = none
+exact side C.Power a b = power a b
+exact side C.Negative a b = some (negℤ a)
+exact side C.Pool a b = some (taken side a b)
 
 -- 01: "an operand without a result leaves none"
-abbrev pub exactOf : Numbered → Option ℤ → Option ℤ → Option ℤ
-exactOf N.Unlisted x y = none
-exactOf (N.Is c) none y = none
-exactOf (N.Is c) (some a) none = none
-exactOf (N.Is c) (some a) (some b) = exact c a b
+abbrev pub exactOf : Side → Numbered → Option ℤ → Option ℤ → Option ℤ
+exactOf side N.Unlisted x y = none
+exactOf side (N.Is c) none y = none
+exactOf side (N.Is c) (some a) none = none
+exactOf side (N.Is c) (some a) (some b) = exact side c a b
 
--- 01: "one whole number for each leaf column": by leaf and column
+-- 01: "one whole number for each leaf column": by leaf and column; 02, S-1: "one operand for the whole row": by node, for all its columns
 pub record Row : Type 0 where
   pub number : ℕ → ℕ → ℤ
+  pub side : ℕ → Side
 
 -- a node's results, by column
 abbrev pub Results : Type 0
@@ -69,7 +80,7 @@ module _ (p : List ℕ) (sheet : ℕ → Sheet) (row : Row) where
   stepResults done k =
       let xs = getD done (leftOf p k) [] in
       let ys = getD done (rightOf p k) [] in
-      listFrom (columnsOf (sheet k .fields)) 0 (λ j. exactOf (componentOf (componentNumber p k)) (columnOf xs j) (columnOf ys j))
+      listFrom (columnsOf (sheet k .fields)) 0 (λ j. exactOf (row .side k) (componentOf (componentNumber p k)) (columnOf xs j) (columnOf ys j))
 
   abbrev pub nodeResults : List Results → ℕ → Results
   nodeResults done k = cond (ltb k (leafCount p)) (leafResults k) (stepResults done k)

@@ -11,7 +11,7 @@ use Rattle.base.specs.declared.Component.{Component}
 use Rattle.base.specs.declared.Component.the-variants as C
 use Rattle.base.specs.declared.Numbered.the-variants as N
 use Rattle.shape.specs.Shape.{columnsOf}
-use Rattle.containment.specs.Exact.{Results, columnOf, exactOf}
+use Rattle.containment.specs.Exact.{Side, Results, columnOf, exactOf}
 use Rattle.containment.specs.Demand.{entryFor, Keeps, OneOrPerColumn, IsRange, OffZero}
 use Rattle.containment.specs.Asks.{LowerAboveZero, LowerNotNegative}
 
@@ -53,6 +53,7 @@ Admitted C.Modulo l r j = OfRange LowerAboveZero r j
 Admitted C.Log l r j = ⊥
 Admitted C.Power l r j = OfRange LowerNotNegative r j
 Admitted C.Negative l r j = Unit {0}
+Admitted C.Pool l r j = Unit {0}
 
 -- every column has a result, and it keeps to what the sheet states
 pub record Good (s : Sheet) (rs : Results) : Type 0 where
@@ -61,6 +62,6 @@ pub record Good (s : Sheet) (rs : Results) : Type 0 where
   pub fits : Fitting (s .nature) (length rs)
   pub result : (j : ℕ) → j < length rs → (v : ℤ) × (getD rs j none ≡ some v) × Keeps (s .nature) j v
 
--- the results of a step whose sheet is s, of its operands' results
-abbrev pub stepOf : Component → Sheet → Results → Results → Results
-stepOf c s xs ys = listFrom (columnsOf (s .fields)) 0 (λ j. exactOf (N.Is c) (columnOf xs j) (columnOf ys j))
+-- the results of a step whose sheet is s, of its operands' results and, for Pool, the side that the row takes
+abbrev pub stepOf : Side → Component → Sheet → Results → Results → Results
+stepOf side c s xs ys = listFrom (columnsOf (s .fields)) 0 (λ j. exactOf side (N.Is c) (columnOf xs j) (columnOf ys j))

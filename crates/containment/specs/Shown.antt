@@ -1,10 +1,11 @@
--- One plan of demand 3, given by its bytes, so that the demand does not speak of nothing: the plan, its work buffer before and after the call, a row, and the
--- row's exact results. `proofs/Shown` holds the plan call and demand 3 to them.
-use mathlib.Core.Bool.{Bool, true, false}
+-- One plan of demand 3, given by its bytes, so that the demand does not speak of nothing: the plan, its work buffer before and after the call, two rows that
+-- take opposite sides, and each row's exact results. `proofs/Shown` holds the plan call and demand 3 to them.
+use mathlib.Core.Bool.{Bool, true, false, cond}
 use mathlib.Core.List.{List, [], _∷_, _++_}
-use mathlib.Core.Option.{none, some}
+use mathlib.Core.Option.{Option, none, some}
 use Prim.Native.Nat.{ℕ, _-_, _*_}
 use lib.IntN.{ℤ, pos}
+use lib.Dec.{eqb}
 use lib.ListN.{length, replicate, getD}
 use Rattle.numbers.specs.Kind.{Span}
 use Rattle.base.specs.Form.{narrow, longest, intType}
@@ -12,14 +13,14 @@ use Rattle.base.specs.Sheet.{Nature, wholeRange, wholeLists, Sheet}
 use Rattle.base.specs.Encode.{encode, joined}
 use Rattle.step_laws.specs.Shelf.{minus}
 use Rattle.calls.specs.Walk.{plan}
-use Rattle.containment.specs.Exact.{Row, Results}
+use Rattle.containment.specs.Exact.{Side, fromLeft, fromRight, Row, Results}
 use Rattle.containment.specs.Demand.{sheetOf}
 
 -- ---- the plan
 
 unfoldable pub shownPlan : List ℕ
 shownPlan =
-    13 ∷ 0  -- N, the nodes
+    16 ∷ 0  -- N, the nodes
     ∷ 5 ∷ 0  -- K, the leaves
     ∷ 4 ∷ 0 ∷ 0 ∷ 0  -- node 5: Multiply
     ∷ 5 ∷ 0 ∷ 0 ∷ 0  -- node 6: Divide
@@ -29,6 +30,9 @@ shownPlan =
     ∷ 8 ∷ 0 ∷ 0 ∷ 0  -- node 10: Power
     ∷ 9 ∷ 0 ∷ 0 ∷ 0  -- node 11: Negative
     ∷ 1 ∷ 0 ∷ 0 ∷ 0  -- node 12: Abs
+    ∷ 10 ∷ 0 ∷ 0 ∷ 0  -- node 13: Pool
+    ∷ 4 ∷ 0 ∷ 0 ∷ 0  -- node 14: Multiply
+    ∷ 10 ∷ 0 ∷ 0 ∷ 0  -- node 15: Pool
     ∷ 0 ∷ 0 ∷ 1 ∷ 0  -- node 5: left 0, right 1
     ∷ 5 ∷ 0 ∷ 2 ∷ 0  -- node 6: left 5, right 2
     ∷ 6 ∷ 0 ∷ 1 ∷ 0  -- node 7: left 6, right 1
@@ -37,13 +41,16 @@ shownPlan =
     ∷ 7 ∷ 0 ∷ 1 ∷ 0  -- node 10: left 7, right 1
     ∷ 6 ∷ 0 ∷ 6 ∷ 0  -- node 11: left 6, right 6
     ∷ 11 ∷ 0 ∷ 11 ∷ 0  -- node 12: left 11, right 11
+    ∷ 0 ∷ 0 ∷ 2 ∷ 0  -- node 13: left 0, right 2
+    ∷ 13 ∷ 0 ∷ 13 ∷ 0  -- node 14: left 13, right 13
+    ∷ 3 ∷ 0 ∷ 4 ∷ 0  -- node 15: left 3, right 4
     ∷ []
 
 -- ---- its sheets
 
--- private, of type Int, 100 rows of one data set; by node number, order, columns and nature
-abbrev pub sheetWith : ℤ → Bool → ℕ → Nature → Sheet
-sheetWith node ordered columns k = record {
+-- private, of type Int; by rows, data set, node number, order, columns and nature
+abbrev pub sheetWith : ℕ → Option ℤ → ℤ → Bool → ℕ → Nature → Sheet
+sheetWith rows dataset node ordered columns k = record {
   fields = record {
     dataType = intType;
     nullity = false;
@@ -52,9 +59,9 @@ sheetWith node ordered columns k = record {
     ordered = ordered;
     cStability = 1;
     aggregator = 0;
-    rows = some (pos 100);
+    rows = some (pos rows);
     columns = some columns;
-    dataset = some (pos 7);
+    dataset = dataset;
     dimensionality = some (pos 2);
     sample = none;
   };
@@ -69,9 +76,9 @@ between a c = record { lower = some a; upper = some c }
 abbrev pub endless : Span ℤ
 endless = record { lower = none; upper = none }
 
--- a leaf's node number is whatever it was handed in with
+-- 100 rows of one data set; a leaf's node number is whatever it was handed in with
 abbrev pub leaf : ℕ → Nature → Sheet
-leaf columns k = sheetWith (pos 40) false columns k
+leaf columns k = sheetWith 100 (some (pos 7)) (pos 40) false columns k
 
 -- nodes 0 to 4: two columns under one entry, one column, two columns with an entry each (the divisor, above 0 and below 0), and two of categories
 unfoldable pub shownLeaves : List Sheet
@@ -85,9 +92,13 @@ shownLeaves =
 
 -- a step's sheet, with its own node number (2 to 5) or with that of the operand that it copies
 abbrev pub derived : ℕ → ℕ → Nature → Sheet
-derived node columns k = sheetWith (pos node) true columns k
+derived node columns k = sheetWith 100 (some (pos 7)) (pos node) true columns k
 
--- nodes 5 to 12, as the call is to leave them
+-- both operands' rows, of no data set: Pool's own sheet is not ordered
+abbrev pub pooled : ℕ → Bool → ℕ → Nature → Sheet
+pooled node ordered columns k = sheetWith 200 none (pos node) ordered columns k
+
+-- nodes 5 to 15, as the call is to leave them
 unfoldable pub shownSteps : List Sheet
 shownSteps =
     derived 5 2 (wholeRange (between (minus 10) (pos 15) ∷ between (minus 10) (pos 15) ∷ []))
@@ -98,6 +109,9 @@ shownSteps =
     ∷ derived 6 2 (wholeRange (endless ∷ endless ∷ []))
     ∷ derived 6 2 (wholeRange (between (minus 7) (pos 5) ∷ between (minus 3) (pos 5) ∷ []))
     ∷ derived 6 2 (wholeRange (between (minus 5) (pos 7) ∷ between (minus 5) (pos 5) ∷ []))
+    ∷ pooled 13 false 2 (wholeRange (between (minus 2) (pos 3) ∷ between (minus 4) (pos 3) ∷ []))
+    ∷ pooled 14 true 2 (wholeRange (between (minus 6) (pos 9) ∷ between (minus 12) (pos 16) ∷ []))
+    ∷ pooled 15 false 1 (wholeLists ((pos 1 ∷ pos 2 ∷ pos 10 ∷ pos 11 ∷ []) ∷ []))
     ∷ []
 
 -- ---- the work buffer
@@ -122,7 +136,7 @@ shownAfter = slotsOf (shownLeaves ++ shownSteps)
 abbrev pub shownSheet : ℕ → Sheet
 shownSheet = sheetOf narrow shownPlan shownWork (plan narrow shownPlan shownWork .bytes)
 
--- ---- a row, and what the plan computes on it
+-- ---- two rows, and what the plan computes on each
 
 unfoldable pub shownNumbers : List (List ℤ)
 shownNumbers =
@@ -133,12 +147,19 @@ shownNumbers =
     ∷ (pos 11 ∷ [])
     ∷ []
 
-unfoldable pub shownRow : Row
-shownRow = record { number = λ k j. getD (getD shownNumbers k []) j (pos 0) }
+-- by the side of node 13 and that of every other node
+unfoldable pub rowTaking : Side → Side → Row
+rowTaking x y = record { number = λ k j. getD (getD shownNumbers k []) j (pos 0); side = λ k. cond (eqb k 13) x y }
 
--- of every node, leaves first
-unfoldable pub shownResults : List Results
-shownResults =
+abbrev pub shownRow : Row
+shownRow = rowTaking fromLeft fromRight
+
+abbrev pub oppositeRow : Row
+oppositeRow = rowTaking fromRight fromLeft
+
+-- of nodes 0 to 12, leaves first: they come of no Pool step, and both rows have the same
+unfoldable pub commonResults : List Results
+commonResults =
     (some (pos 3) ∷ some (minus 2) ∷ [])
     ∷ (some (pos 5) ∷ [])
     ∷ (some (pos 2) ∷ some (minus 3) ∷ [])
@@ -153,3 +174,21 @@ shownResults =
     ∷ (some (minus 7) ∷ some (minus 3) ∷ [])
     ∷ (some (pos 7) ∷ some (pos 3) ∷ [])
     ∷ []
+
+-- .. and of all: node 13 takes both columns of node 0, and node 15 takes node 4
+unfoldable pub shownResults : List Results
+shownResults =
+    commonResults
+    ++ ((some (pos 3) ∷ some (minus 2) ∷ [])
+    ∷ (some (pos 9) ∷ some (pos 4) ∷ [])
+    ∷ (some (pos 11) ∷ [])
+    ∷ [])
+
+-- .. node 13 takes both columns of node 2, and node 15 takes node 3
+unfoldable pub oppositeResults : List Results
+oppositeResults =
+    commonResults
+    ++ ((some (pos 2) ∷ some (minus 3) ∷ [])
+    ∷ (some (pos 4) ∷ some (pos 9) ∷ [])
+    ∷ (some (pos 2) ∷ [])
+    ∷ [])

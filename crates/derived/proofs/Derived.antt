@@ -4,18 +4,20 @@
 --     sound-formed, sound-length       so that its bytes read back, and are no more than the longest sheet's
 -- Assumes nothing.
 use mathlib.Core.Path.{_≡_, refl, subst}
-use mathlib.Core.Bool.{Bool, true, false, cond, not}
+use mathlib.Core.Bool.{Bool, true, false, cond, not, _||_}
 use mathlib.Core.List.{List}
 use mathlib.Core.Option.{Option, none, some, Option·getD}
 use Prim.Native.Nat.{ℕ, _+_, _*_, _^_, _≤_, _<_}
 use native.Mathlib.Nat.{mul-le-mul-left}
 use native.Mathlib.Omega.{arith}
 use lib.Dec.{T}
-use lib.IntN.{ℤ, pos}
+use lib.IntN.{ℤ, pos, _+ℤ_}
 use lib.ListN.{length}
 use lib.Signed.{ltZ}
 use Rattle.numbers.specs.Result.{ok}
-use Rattle.base.specs.Form.{Form, Laid, longest, isRangeNature}
+use Rattle.numbers.specs.Checked.{checkedOf}
+use Rattle.numbers.specs.Kind.{fitting}
+use Rattle.base.specs.Form.{Form, Laid, longest, lastType, isRangeNature}
 use Rattle.base.specs.Sheet.{Group, Fields, Sheet}
 use Rattle.base.specs.Bounds.{isPresent}
 use Rattle.base.specs.Encode.{encode, natureNumber, entryCount, valueCount}
@@ -24,18 +26,20 @@ use Rattle.base.specs.declared.Component.{Component}
 use Rattle.base.specs.declared.Family.{Family}
 use Rattle.base.specs.declared.Family.the-variants as Fam
 use Rattle.base.proofs.Flags.{or-no}
-use Rattle.shape.specs.Shape.{columnsOf, columnsAbsent, widest, groupsOf, greaterZ, greaterOption, greaterPresent, rowsAgree, rowsOf}
-use Rattle.orders.specs.Orders.{unaryChecks, pairChecks, copyChecks, lastChecks}
-use Rattle.shape.specs.Fields.{addsNullity, pairFields, copyFields, copySheet, numbered}
+use Rattle.shape.specs.Shape.{columnsOf, columnsAbsent, widest, groupsOf, greaterZ, greaterOption, greaterPresent, rowsAgree, rowsOf, rowsSum}
+use Rattle.orders.specs.Orders.{unaryChecks, pairChecks, copyChecks, lastChecks, poolChecks}
+use Rattle.shape.specs.Fields.{addsNullity, pairFields, copyFields, poolFields, pairSheet, copySheet, poolSheet, unarySheet, numbered}
 use Rattle.orders.proofs.Orders.{copy-numbered}
-use Rattle.calls.specs.Natures.{binaryNature, unaryNature}
-use Rattle.calls.specs.Derive.{deriveUnary, derivePair, deriveCopy, deriveBy, derive}
+use Rattle.category_lists.specs.Categories.{keptTo}
+use Rattle.calls.specs.Natures.{binaryNature, poolNature, unaryNature}
+use Rattle.calls.specs.Derive.{deriveUnary, derivePair, deriveCopy, derivePool, deriveBy, derive}
 use Rattle.round_trip.specs.WellFormed.{Each, Present, Whole, Bits, FieldsFit, GroupFits, WellFormed}
 use Rattle.round_trip.proofs.Table.{sheet-length}
 use Rattle.round_trip.proofs.Natures.{arrays-length}
 use Rattle.derived.specs.Held.{KeyAllowed, Held, Sound}
 use Rattle.derived.proofs.Gives.{Gives, all-counted, gives-then, gives-passed, gives-checked}
-use Rattle.derived.proofs.Made.{Made, binary-made, unary-made}
+use Rattle.derived.proofs.Fitted.{fitting-fits}
+use Rattle.derived.proofs.Made.{Made, Kept, kept-to, pool-made, binary-kept, unary-kept}
 
 -- ---- fields
 
@@ -89,6 +93,31 @@ pair-fields more x y p q =
       sample = p .sample;
     }
 
+-- the sum of two row counts leaves 64 bits with 24
+sum-whole : (x y : Option ℤ) → Gives (Present Whole) (rowsSum x y)
+unfolding rowsSum
+sum-whole none y = tt
+sum-whole (some a) none = tt
+sum-whole (some a) (some b) = gives-then Whole (Present Whole) (fitting (checkedOf (a +ℤ b))) _ (fitting-fits (a +ℤ b)) (λ n p. p)
+
+pool-fields : (rows : Option ℤ) (x y : Fields) → Present Whole rows → FieldsFit x → FieldsFit y → FieldsFit (poolFields rows x y)
+unfolding poolFields
+pool-fields rows x y w p q =
+    let a = p .cStability in
+    let b = q .cStability in
+    let m = columns-fit (x .columns) (p .columns) in
+    let n = columns-fit (y .columns) (q .columns) in
+    record {
+      dataType = p .dataType;
+      cStability = omega arith;
+      aggregator = omega arith;
+      rows = w;
+      columns = omega arith;
+      dataset = tt;
+      dimensionality = option-whole (x .dimensionality) (y .dimensionality) (p .dimensionality) (q .dimensionality);
+      sample = tt;
+    }
+
 copy-fields : (x y : Fields) → FieldsFit x → FieldsFit y → FieldsFit (copyFields x y)
 unfolding copyFields
 copy-fields x y p q = record {
@@ -115,74 +144,77 @@ module _ {F : Form} (laid : Laid F) where
       go true = (q .groupsWithin, q .groups, q .allowed .groups)
       go false = (p .groupsWithin, p .groups, p .allowed .groups)
 
+  held-made : (s : Sheet) → Held F s → Made F (s .nature)
+  held-made s p = record { entries = p .entriesWithin; fits = p .nature; allowed = p .allowed .values }
+
+  sheet-sound : (s : Sheet) → columnsOf (s .fields) ≤ F .columnLimit → FieldsFit (s .fields) → s .fields .dataType ≤ lastType
+      → Present (λ n. 0 < n) (s .fields .columns) → Whole (s .node) → GroupsHeld (s .groups) → Kept F (F .categoryLimit) (s .nature) → Sound F s
+  sheet-sound s w f t n z g m = record {
+    held = record {
+      groupsWithin = g .0;
+      entriesWithin = m .made .entries;
+      columnsWithin = w;
+      fields = f;
+      node = z;
+      groups = g .1;
+      nature = m .made .fits;
+      allowed = record { dataType = t; columns = n; groups = g .2; values = m .made .allowed };
+    };
+    values = m .values;
+  }
+
+  -- the greater of two column counts, of which left's is present
+  module _ (l r : Sheet) (p : Held F l) (q : Held F r) where
+    widest-within : widest (l .fields) (r .fields) ≤ F .columnLimit
+    widest-within = let a = p .columnsWithin in let b = q .columnsWithin in omega arith
+
+    widest-some : (columnsAbsent (l .fields) || columnsAbsent (r .fields)) ≡ false → 0 < widest (l .fields) (r .fields)
+    widest-some e =
+        let present = or-no (columnsAbsent (l .fields)) (columnsAbsent (r .fields)) e in
+        let some-column = columns-some (l .fields .columns) (present .0) (p .allowed .columns) in
+        omega arith
+
   pair-sound : (c : Component) (l r : Sheet) → Held F l → Held F r → Gives (Sound F) (derivePair (F .categoryLimit) c l r)
   unfolding derivePair pairFields
   pair-sound c l r p q =
-      let a = p .columnsWithin in
-      let b = q .columnsWithin in
-      let w : widest (l .fields) (r .fields) ≤ F .columnLimit = omega arith in
-      let g = groups-held l r p q in
       gives-passed (Sound F) (pairChecks l r) _ refl
       (λ passing.
-      let present = or-no (columnsAbsent (l .fields)) (columnsAbsent (r .fields)) (passing .1 .1 .1 .1 .1 .1 .1 .0) in
-      let some-column = columns-some (l .fields .columns) (present .0) (p .allowed .columns) in
-      gives-then (Made F (F .categoryLimit)) (Sound F) (binaryNature (F .categoryLimit) c (l .fields .dataType) (widest (l .fields) (r .fields)) (l .nature) (r .nature)) _
-      (binary-made laid (F .categoryLimit) c (l .fields .dataType) (widest (l .fields) (r .fields)) w (l .nature) (r .nature) (p .entriesWithin) (p .nature) (q .nature))
-      (λ k m. record {
-        held = record {
-          groupsWithin = g .0;
-          entriesWithin = m .entries;
-          columnsWithin = w;
-          fields = pair-fields (addsNullity c (r .nature)) (l .fields) (r .fields) (p .fields) (q .fields);
-          node = p .node;
-          groups = g .1;
-          nature = m .fits;
-          allowed = record { dataType = p .allowed .dataType; columns = omega arith; groups = g .2; values = m .allowed };
-        };
-        values = m .values;
-      }))
+      gives-then (Kept F (F .categoryLimit)) (Sound F) (binaryNature (F .categoryLimit) c (l .fields .dataType) (widest (l .fields) (r .fields)) (l .nature) (r .nature)) _
+      (binary-kept laid (widest (l .fields) (r .fields)) (widest-within l r p q) (F .categoryLimit) c (l .fields .dataType) (l .nature) (r .nature) (held-made l p) (held-made r q))
+      (λ k m.
+      sheet-sound (pairSheet c l r k) (widest-within l r p q) (pair-fields (addsNullity c (r .nature)) (l .fields) (r .fields) (p .fields) (q .fields))
+      (p .allowed .dataType) (widest-some l r p q (passing .1 .1 .1 .1 .1 .1 .1 .0)) (p .node) (groups-held l r p q) m))
+
+  pool-sound : (c : Component) (l r : Sheet) → Held F l → Held F r → Gives (Sound F) (derivePool (F .categoryLimit) c l r)
+  unfolding derivePool poolFields
+  pool-sound c l r p q =
+      gives-passed (Sound F) (poolChecks l r) _ refl
+      (λ passing.
+      gives-then (Made F) (Sound F) (poolNature c (l .fields .dataType) (widest (l .fields) (r .fields)) (l .nature) (r .nature)) _
+      (pool-made laid (widest (l .fields) (r .fields)) (widest-within l r p q) c (l .fields .dataType) (l .nature) (r .nature) (held-made l p) (held-made r q))
+      (λ k m. gives-then (Present Whole) (Sound F) (rowsSum (l .fields .rows) (r .fields .rows)) _ (sum-whole (l .fields .rows) (r .fields .rows))
+      (λ rows w. gives-then (Kept F (F .categoryLimit)) (Sound F) (keptTo (F .categoryLimit) k) _ (kept-to laid (F .categoryLimit) k m)
+      (λ k′ m′.
+      sheet-sound (poolSheet rows l r k′) (widest-within l r p q) (pool-fields rows (l .fields) (r .fields) w (p .fields) (q .fields))
+      (p .allowed .dataType) (widest-some l r p q (passing .1 .1 .1 .1 .1 .0)) (p .node) (groups-held l r p q) m′))))
 
   copy-sound : (c : Component) (l r : Sheet) → Held F l → Held F r → Gives (Sound F) (deriveCopy (F .categoryLimit) c l r)
   unfolding deriveCopy copyFields
   copy-sound c l r p q =
-      let g = groups-held l r p q in
       gives-checked (Sound F) (copyChecks c l r) _ (all-counted (copyChecks c l r) (copy-numbered l r c))
-      (gives-then (Made F (F .categoryLimit)) (Sound F) (binaryNature (F .categoryLimit) c (l .fields .dataType) (columnsOf (l .fields)) (l .nature) (r .nature)) _
-      (binary-made laid (F .categoryLimit) c (l .fields .dataType) (columnsOf (l .fields)) (p .columnsWithin) (l .nature) (r .nature) (p .entriesWithin) (p .nature) (q .nature))
+      (gives-then (Kept F (F .categoryLimit)) (Sound F) (binaryNature (F .categoryLimit) c (l .fields .dataType) (columnsOf (l .fields)) (l .nature) (r .nature)) _
+      (binary-kept laid (columnsOf (l .fields)) (p .columnsWithin) (F .categoryLimit) c (l .fields .dataType) (l .nature) (r .nature) (held-made l p) (held-made r q))
       (λ k m. gives-checked (Sound F) (lastChecks l r) (ok (copySheet l r k)) refl
-      (record {
-        held = record {
-          groupsWithin = g .0;
-          entriesWithin = m .entries;
-          columnsWithin = p .columnsWithin;
-          fields = copy-fields (l .fields) (r .fields) (p .fields) (q .fields);
-          node = p .node;
-          groups = g .1;
-          nature = m .fits;
-          allowed = record { dataType = p .allowed .dataType; columns = p .allowed .columns; groups = g .2; values = m .allowed };
-        };
-        values = m .values;
-      })))
+      (sheet-sound (copySheet l r k) (p .columnsWithin) (copy-fields (l .fields) (r .fields) (p .fields) (q .fields))
+      (p .allowed .dataType) (p .allowed .columns) (p .node) (groups-held l r p q) m)))
 
   unary-sound : (c : Component) (l : Sheet) → Held F l → Gives (Sound F) (deriveUnary (F .categoryLimit) c l)
   unfolding deriveUnary
   unary-sound c l p =
       gives-checked (Sound F) (unaryChecks (l .fields)) _ refl
-      (gives-then (Made F (F .categoryLimit)) (Sound F) (unaryNature (F .categoryLimit) c (l .fields .dataType) (columnsOf (l .fields)) (l .nature)) _
-      (unary-made laid (F .categoryLimit) c (l .fields .dataType) (columnsOf (l .fields)) (p .columnsWithin) (l .nature) (p .entriesWithin) (p .nature))
-      (λ k m. record {
-        held = record {
-          groupsWithin = p .groupsWithin;
-          entriesWithin = m .entries;
-          columnsWithin = p .columnsWithin;
-          fields = p .fields;
-          node = p .node;
-          groups = p .groups;
-          nature = m .fits;
-          allowed = record { dataType = p .allowed .dataType; columns = p .allowed .columns; groups = p .allowed .groups; values = m .allowed };
-        };
-        values = m .values;
-      }))
+      (gives-then (Kept F (F .categoryLimit)) (Sound F) (unaryNature (F .categoryLimit) c (l .fields .dataType) (columnsOf (l .fields)) (l .nature)) _
+      (unary-kept laid (columnsOf (l .fields)) (p .columnsWithin) (F .categoryLimit) c (l .fields .dataType) (l .nature) (held-made l p))
+      (λ k m. sheet-sound (unarySheet l k) (p .columnsWithin) (p .fields) (p .allowed .dataType) (p .allowed .columns) (p .node) (p .groupsWithin, p .groups, p .allowed .groups) m))
 
   pub derived-sound : (c : Component) (l r : Sheet) → Held F l → Held F r → Gives (Sound F) (derive (F .categoryLimit) c l r)
   unfolding derive
@@ -192,6 +224,7 @@ module _ {F : Form} (laid : Laid F) where
       go Fam.Unary = unary-sound c l p
       go Fam.Pair = pair-sound c l r p q
       go Fam.Copy = copy-sound c l r p q
+      go Fam.Pool = pool-sound c l r p q
 
   -- ---- with the call's node number
 
@@ -217,6 +250,7 @@ module _ {F : Form} (laid : Laid F) where
   numbered-sound Fam.Unary node s h p = p
   numbered-sound Fam.Pair node s h p = with-node s (pos node) (record { sfits = omega arith }) p
   numbered-sound Fam.Copy node s h p = p
+  numbered-sound Fam.Pool node s h p = with-node s (pos node) (record { sfits = omega arith }) p
 
   -- ---- its bytes
 

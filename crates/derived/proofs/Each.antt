@@ -53,6 +53,10 @@ module _ {X : Type 0} (P : X → Type 0) where
     unfolding firsts
     each-firsts xs q = each-seen [] xs tt q
 
+pub each-weaken : {X : Type 0} (P Q : X → Type 0) → ((x : X) → P x → Q x) → (xs : List X) → Each P xs → Each Q xs
+each-weaken P Q h [] p = tt
+each-weaken P Q h (x ∷ xs) p = (h x (p .0), each-weaken P Q h xs (p .1))
+
 pub each-map : {X Y : Type 0} (P : X → Type 0) (Q : Y → Type 0) (f : X → Y) → ((x : X) → P x → Q (f x)) → (xs : List X) → Each P xs → Each Q (map f xs)
 each-map P Q f h [] p = tt
 each-map P Q f h (x ∷ xs) p = (h x (p .0), each-map P Q f h xs (p .1))

@@ -17,7 +17,7 @@ use Rattle.numbers.specs.declared.Checked.the-variants.{Fits, Leaves}
 use Rattle.base.specs.Form.{intType}
 use Rattle.base.specs.declared.Component.{Component}
 use Rattle.base.specs.declared.Component.the-variants as C
-use Rattle.ends.specs.Ends.{unknown, both, present, fromTwo, fromOne, fromBoth, addEnds, subEnds, negEnds, absLower, absUpper, absEnds, corners, mulCorners, mulEnds, divCorners, divUpper, divLower, divPresent, divBy, divEnds, modEnds, endRule}
+use Rattle.ends.specs.Ends.{unknown, both, present, fromTwo, fromOne, fromBoth, addEnds, subEnds, negEnds, absLower, absUpper, absEnds, corners, mulCorners, mulEnds, divCorners, divUpper, divLower, divPresent, divBy, divEnds, modEnds, poolEnds, endRule}
 use Rattle.ends.specs.Ranges.{wholeRule}
 use Rattle.round_trip.specs.WellFormed.{Present, Whole, Double, SpanFits}
 use Rattle.derived.proofs.Gives.{Gives, gives-then, gives-either}
@@ -71,7 +71,7 @@ float-fits = record {
   last = λ a p. p;
 }
 
-module _ {E : Type 0} (K : Kind E) (P : E → Type 0) (fit : KindFits K P) where
+module _ {E : Type 0} (K : Kind E) (P : E → Type 0) where
   either : (t : Bool) (x y : E) → P x → P y → P (cond t x y)
   either true x y p q = p
   either false x y p q = q
@@ -95,11 +95,18 @@ module _ {E : Type 0} (K : Kind E) (P : E → Type 0) (fit : KindFits K P) where
   both-fits l u p q =
       gives-then (Present P) (SpanFits P) l _ p (λ x f. gives-then (Present P) (SpanFits P) u _ q (λ y g. span-fits {l = x} {u = y} f g))
 
-  two-fits : (op : E → E → Result E) → ((a b : E) → Gives P (op a b)) → (x y : Option E) → Gives (Present P) (fromTwo op x y)
+  two-fits : (op : E → E → Result E) → ((a b : E) → P a → P b → Gives P (op a b)) → (x y : Option E) → Present P x → Present P y → Gives (Present P) (fromTwo op x y)
   unfolding fromTwo
-  two-fits op h none y = tt
-  two-fits op h (some a) none = tt
-  two-fits op h (some a) (some b) = present-fits (op a b) (h a b)
+  two-fits op h none y p q = tt
+  two-fits op h (some a) none p q = tt
+  two-fits op h (some a) (some b) p q = present-fits (op a b) (h a b p q)
+
+  -- the lower end by one operation, the upper by another
+  ends-fit : (low high : E → E → Result E) → ((a b : E) → P a → P b → Gives P (low a b)) → ((a b : E) → P a → P b → Gives P (high a b))
+      → (x y : Span E) → SpanFits P x → SpanFits P y → Gives (SpanFits P) (both (fromTwo low (x .lower) (y .lower)) (fromTwo high (x .upper) (y .upper)))
+  ends-fit low high g h x y p q =
+      both-fits (fromTwo low (x .lower) (y .lower)) (fromTwo high (x .upper) (y .upper))
+      (two-fits low g (x .lower) (y .lower) (p .lower) (q .lower)) (two-fits high h (x .upper) (y .upper) (p .upper) (q .upper))
 
   one-fits : (op : E → Result E) → ((a : E) → P a → Gives P (op a)) → (x : Option E) → Present P x → Gives (Present P) (fromOne op x)
   unfolding fromOne
@@ -113,79 +120,82 @@ module _ {E : Type 0} (K : Kind E) (P : E → Type 0) (fit : KindFits K P) where
   from-both-fits (some a) none rule h p q = nothing
   from-both-fits (some a) (some c) rule h p q = h a c p q
 
-  abs-lower : (a c : E) → P a → P c → Gives P (absLower K a c)
-  unfolding absLower
-  abs-lower a c p q = gives-either P (K .lt (K .zero) a) (ok a) (K .neg c) p (fit .neg c q)
+  -- the ends of Pool are ends of its operands
+  pub pool-fits : (x y : Span E) → SpanFits P x → SpanFits P y → Gives (SpanFits P) (poolEnds K x y)
+  unfolding poolEnds
+  pool-fits x y p q = ends-fit (λ a d. ok (lesser K a d)) (λ c f. ok (greater K f c)) lesser-fits (λ c f p q. greater-fits f c q p) x y p q
 
-  abs-upper : (a c : E) → P a → P c → Gives P (absUpper K a c)
-  unfolding absUpper
-  abs-upper a c p q = gives-then P P (K .add a c) _ (fit .add a c) (λ s f. gives-either P (K .lt (K .zero) s) (ok c) (K .neg a) q (fit .neg a p))
+  module _ (fit : KindFits K P) where
+    abs-lower : (a c : E) → P a → P c → Gives P (absLower K a c)
+    unfolding absLower
+    abs-lower a c p q = gives-either P (K .lt (K .zero) a) (ok a) (K .neg c) p (fit .neg c q)
 
-  corners-fit : (p q r s : Result E) → Gives P p → Gives P q → Gives P r → Gives P s → Gives (SpanFits P) (corners K p q r s)
-  unfolding corners
-  corners-fit p q r s a b c d =
-      gives-then P (SpanFits P) p _ a
-      (λ p a. gives-then P (SpanFits P) q _ b
-      (λ q b. gives-then P (SpanFits P) r _ c
-      (λ r c. gives-then P (SpanFits P) s _ d
-      (λ s d. record {
-        lower = lesser-fits (lesser K (lesser K p q) r) s (lesser-fits (lesser K p q) r (lesser-fits p q a b) c) d;
-        upper = greater-fits (greater K (greater K p q) r) s (greater-fits (greater K p q) r (greater-fits p q a b) c) d;
-      }))))
+    abs-upper : (a c : E) → P a → P c → Gives P (absUpper K a c)
+    unfolding absUpper
+    abs-upper a c p q = gives-then P P (K .add a c) _ (fit .add a c) (λ s f. gives-either P (K .lt (K .zero) s) (ok c) (K .neg a) q (fit .neg a p))
 
-  div-upper : (a c f : E) → Gives (SpanFits P) (divUpper K a c f)
-  unfolding divUpper
-  div-upper a c f =
-      gives-then P (SpanFits P) (K .div a f) _ (fit .div a f)
-      (λ p x. gives-then P (SpanFits P) (K .div c f) _ (fit .div c f) (λ q y. record { lower = tt; upper = greater-fits p q x y }))
+    corners-fit : (p q r s : Result E) → Gives P p → Gives P q → Gives P r → Gives P s → Gives (SpanFits P) (corners K p q r s)
+    unfolding corners
+    corners-fit p q r s a b c d =
+        gives-then P (SpanFits P) p _ a
+        (λ p a. gives-then P (SpanFits P) q _ b
+        (λ q b. gives-then P (SpanFits P) r _ c
+        (λ r c. gives-then P (SpanFits P) s _ d
+        (λ s d. record {
+          lower = lesser-fits (lesser K (lesser K p q) r) s (lesser-fits (lesser K p q) r (lesser-fits p q a b) c) d;
+          upper = greater-fits (greater K (greater K p q) r) s (greater-fits (greater K p q) r (greater-fits p q a b) c) d;
+        }))))
 
-  div-lower : (a c d : E) → Gives (SpanFits P) (divLower K a c d)
-  unfolding divLower
-  div-lower a c d =
-      gives-then P (SpanFits P) (K .div a d) _ (fit .div a d)
-      (λ p x. gives-then P (SpanFits P) (K .div c d) _ (fit .div c d) (λ q y. record { lower = lesser-fits p q x y; upper = tt }))
+    div-upper : (a c f : E) → Gives (SpanFits P) (divUpper K a c f)
+    unfolding divUpper
+    div-upper a c f =
+        gives-then P (SpanFits P) (K .div a f) _ (fit .div a f)
+        (λ p x. gives-then P (SpanFits P) (K .div c f) _ (fit .div c f) (λ q y. record { lower = tt; upper = greater-fits p q x y }))
 
-  div-present : (a c d f : E) → Gives (SpanFits P) (divPresent K a c d f)
-  unfolding divPresent divCorners
-  div-present a c d f =
-      gives-either (SpanFits P) (K .lt (K .zero) d || K .lt f (K .zero)) (divCorners K a c d f) _
-      (corners-fit (K .div a f) (K .div a d) (K .div c f) (K .div c d) (fit .div a f) (fit .div a d) (fit .div c f) (fit .div c d))
-      (gives-either (SpanFits P) (K .isZero d && not (K .isZero f)) (divUpper K a c f) _ (div-upper a c f)
-      (gives-either (SpanFits P) (not (K .isZero d) && K .isZero f) (divLower K a c d) unknown (div-lower a c d) nothing))
+    div-lower : (a c d : E) → Gives (SpanFits P) (divLower K a c d)
+    unfolding divLower
+    div-lower a c d =
+        gives-then P (SpanFits P) (K .div a d) _ (fit .div a d)
+        (λ p x. gives-then P (SpanFits P) (K .div c d) _ (fit .div c d) (λ q y. record { lower = lesser-fits p q x y; upper = tt }))
 
-  div-by : (a c : E) (d f : Option E) → Gives (SpanFits P) (divBy K a c d f)
-  unfolding divBy
-  div-by a c none none = omega arith
-  div-by a c none (some f) = gives-either (SpanFits P) (K .lt f (K .zero)) unknown (refused 23) nothing (omega arith)
-  div-by a c (some d) none = gives-either (SpanFits P) (K .lt (K .zero) d) unknown (refused 23) nothing (omega arith)
-  div-by a c (some d) (some f) = div-present a c d f
+    div-present : (a c d f : E) → Gives (SpanFits P) (divPresent K a c d f)
+    unfolding divPresent divCorners
+    div-present a c d f =
+        gives-either (SpanFits P) (K .lt (K .zero) d || K .lt f (K .zero)) (divCorners K a c d f) _
+        (corners-fit (K .div a f) (K .div a d) (K .div c f) (K .div c d) (fit .div a f) (fit .div a d) (fit .div c f) (fit .div c d))
+        (gives-either (SpanFits P) (K .isZero d && not (K .isZero f)) (divUpper K a c f) _ (div-upper a c f)
+        (gives-either (SpanFits P) (not (K .isZero d) && K .isZero f) (divLower K a c d) unknown (div-lower a c d) nothing))
 
-  pub rule-fits : (c : Component) (x y : Span E) → SpanFits P x → SpanFits P y → Gives (SpanFits P) (endRule K c x y)
-  unfolding endRule absEnds addEnds subEnds mulEnds mulCorners divEnds modEnds negEnds
-  rule-fits C.Abs x y p q =
-      from-both-fits (x .lower) (x .upper) _
-      (λ a c p q. both-fits (present (absLower K a c)) (present (absUpper K a c)) (present-fits (absLower K a c) (abs-lower a c p q)) (present-fits (absUpper K a c) (abs-upper a c p q)))
-      (p .lower) (p .upper)
-  rule-fits C.Add x y p q =
-      both-fits (fromTwo (K .add) (x .lower) (y .lower)) (fromTwo (K .add) (x .upper) (y .upper))
-      (two-fits (K .add) (fit .add) (x .lower) (y .lower)) (two-fits (K .add) (fit .add) (x .upper) (y .upper))
-  rule-fits C.Subtract x y p q =
-      both-fits (fromTwo (K .sub) (x .lower) (y .lower)) (fromTwo (K .sub) (x .upper) (y .upper))
-      (two-fits (K .sub) (fit .sub) (x .lower) (y .lower)) (two-fits (K .sub) (fit .sub) (x .upper) (y .upper))
-  rule-fits C.Multiply x y p q =
-      from-both-fits (x .lower) (x .upper) _
-      (λ a c g h. from-both-fits (y .lower) (y .upper) _
-      (λ d f g h. corners-fit (K .mul a d) (K .mul a f) (K .mul c d) (K .mul c f) (fit .mul a d) (fit .mul a f) (fit .mul c d) (fit .mul c f))
-      (q .lower) (q .upper))
-      (p .lower) (p .upper)
-  rule-fits C.Divide x y p q = from-both-fits (x .lower) (x .upper) _ (λ a c g h. div-by a c (y .lower) (y .upper)) (p .lower) (p .upper)
-  rule-fits C.Modulo x y p q =
-      both-fits (ok (some (K .zero))) (fromOne (K .last) (y .upper)) (fit .zero) (one-fits (K .last) (fit .last) (y .upper) (q .upper))
-  rule-fits C.Log x y p q = nothing
-  rule-fits C.Power x y p q = nothing
-  rule-fits C.Negative x y p q =
-      both-fits (fromOne (K .neg) (x .upper)) (fromOne (K .neg) (x .lower))
-      (one-fits (K .neg) (fit .neg) (x .upper) (p .upper)) (one-fits (K .neg) (fit .neg) (x .lower) (p .lower))
+    div-by : (a c : E) (d f : Option E) → Gives (SpanFits P) (divBy K a c d f)
+    unfolding divBy
+    div-by a c none none = omega arith
+    div-by a c none (some f) = gives-either (SpanFits P) (K .lt f (K .zero)) unknown (refused 23) nothing (omega arith)
+    div-by a c (some d) none = gives-either (SpanFits P) (K .lt (K .zero) d) unknown (refused 23) nothing (omega arith)
+    div-by a c (some d) (some f) = div-present a c d f
+
+    pub rule-fits : (c : Component) (x y : Span E) → SpanFits P x → SpanFits P y → Gives (SpanFits P) (endRule K c x y)
+    unfolding endRule absEnds addEnds subEnds mulEnds mulCorners divEnds modEnds negEnds
+    rule-fits C.Abs x y p q =
+        from-both-fits (x .lower) (x .upper) _
+        (λ a c p q. both-fits (present (absLower K a c)) (present (absUpper K a c)) (present-fits (absLower K a c) (abs-lower a c p q)) (present-fits (absUpper K a c) (abs-upper a c p q)))
+        (p .lower) (p .upper)
+    rule-fits C.Add x y p q = ends-fit (K .add) (K .add) (λ a b p q. fit .add a b) (λ a b p q. fit .add a b) x y p q
+    rule-fits C.Subtract x y p q = ends-fit (K .sub) (K .sub) (λ a b p q. fit .sub a b) (λ a b p q. fit .sub a b) x y p q
+    rule-fits C.Multiply x y p q =
+        from-both-fits (x .lower) (x .upper) _
+        (λ a c g h. from-both-fits (y .lower) (y .upper) _
+        (λ d f g h. corners-fit (K .mul a d) (K .mul a f) (K .mul c d) (K .mul c f) (fit .mul a d) (fit .mul a f) (fit .mul c d) (fit .mul c f))
+        (q .lower) (q .upper))
+        (p .lower) (p .upper)
+    rule-fits C.Divide x y p q = from-both-fits (x .lower) (x .upper) _ (λ a c g h. div-by a c (y .lower) (y .upper)) (p .lower) (p .upper)
+    rule-fits C.Modulo x y p q =
+        both-fits (ok (some (K .zero))) (fromOne (K .last) (y .upper)) (fit .zero) (one-fits (K .last) (fit .last) (y .upper) (q .upper))
+    rule-fits C.Log x y p q = nothing
+    rule-fits C.Power x y p q = nothing
+    rule-fits C.Negative x y p q =
+        both-fits (fromOne (K .neg) (x .upper)) (fromOne (K .neg) (x .lower))
+        (one-fits (K .neg) (fit .neg) (x .upper) (p .upper)) (one-fits (K .neg) (fit .neg) (x .lower) (p .lower))
+    rule-fits C.Pool x y p q = pool-fits x y p q
 
 -- of another type than Int, Modulo's ends are absent
 pub whole-rule-fits : (c : Component) (type : ℕ) (x y : Span ℤ) → SpanFits Whole x → SpanFits Whole y → Gives (SpanFits Whole) (wholeRule c type x y)
@@ -201,3 +211,4 @@ whole-rule-fits C.Divide type x y p q = rule-fits whole Whole whole-fits C.Divid
 whole-rule-fits C.Log type x y p q = rule-fits whole Whole whole-fits C.Log x y p q
 whole-rule-fits C.Power type x y p q = rule-fits whole Whole whole-fits C.Power x y p q
 whole-rule-fits C.Negative type x y p q = rule-fits whole Whole whole-fits C.Negative x y p q
+whole-rule-fits C.Pool type x y p q = rule-fits whole Whole whole-fits C.Pool x y p q

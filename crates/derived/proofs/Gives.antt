@@ -10,6 +10,7 @@ use Rattle.numbers.specs.Result.{Result, ok, refused, andThen, Check, checked}
 use Rattle.base.proofs.Flags.{and-both}
 use Rattle.utilities.specs.Columns.{each, eachPair}
 use Rattle.orders.proofs.Refusals.{Numbered, head-numbered, tail-numbered}
+use Rattle.orders.proofs.Passing.{Passing}
 use Rattle.round_trip.specs.WellFormed.{Each}
 
 abbrev pub Gives : {X : Type 0} → (X → Type 0) → Result X → Type 0
@@ -20,6 +21,10 @@ Gives P (refused k) = 0 < k
 pub gives-more : {X : Type 0} (P Q : X → Type 0) (g : Result X) → Gives P g → ((x : X) → g ≡ ok x → P x → Q x) → Gives Q g
 gives-more P Q (ok x) p h = h x refl p
 gives-more P Q (refused k) p h = p
+
+pub gives-both : {X : Type 0} (P Q : X → Type 0) (g : Result X) → Gives P g → Gives Q g → Gives (λ x. P x × Q x) g
+gives-both P Q (ok x) p q = (p, q)
+gives-both P Q (refused k) p q = p
 
 pub gives-then : {X Y : Type 0} (P : X → Type 0) (Q : Y → Type 0) (g : Result X) (rest : X → Result Y) → Gives P g
     → ((x : X) → P x → Gives Q (rest x)) → Gives Q (andThen g rest)
@@ -40,10 +45,6 @@ all-counted [] z = refl
 all-counted (c ∷ cs) z =
     let some = eqb-false (c .number) 0 (head-numbered c cs z) in
     rw (lt-ltb 0 (c .number) (omega (arith, some)), all-counted cs (tail-numbered c cs z))
-
--- none of them fails
-abbrev pub Passing : List Check → Type 0
-Passing cs = Each (λ c. c .fails ≡ false) cs
 
 pub gives-passed : {X : Type 0} (P : X → Type 0) (cs : List Check) (rest : Result X) → counted cs ≡ true → (Passing cs → Gives P rest) → Gives P (checked cs rest)
 unfolding checked

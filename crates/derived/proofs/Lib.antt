@@ -3,6 +3,7 @@ pub mod Answers
 pub mod Gives
 pub mod Each
 pub mod Fitted
+pub mod Pooled
 -- What passes 3 and 4 keeps to its form, and so does what is derived of it.
 pub mod Allowed
 pub mod Decoded

@@ -1,7 +1,10 @@
--- The nature that a component derives keeps to the form's limits, and its numbers fit their places; or a number of 01's refuses. Assumes nothing.
+-- The nature that a component derives keeps to the form's limits, and its numbers fit their places; or a number of 01's refuses.
+--     unary-kept, binary-kept    of all components but Pool: `Kept` to the limit of categories
+--     pool-made, kept-to         of Pool: `Made` however many they are, and then kept to the limit
+-- Assumes nothing.
 use mathlib.Core.Path.{_≡_, refl}
 use mathlib.Core.Bool.{Bool, true, false, cond}
-use mathlib.Core.List.{List, [], _∷_, map}
+use mathlib.Core.List.{List, [], _∷_, _++_, map}
 use mathlib.Core.Option.{Option, none, some}
 use Prim.Native.Nat.{ℕ, _^_, _≤_}
 use native.Mathlib.Nat.{mod-lt}
@@ -19,17 +22,17 @@ use Rattle.utilities.specs.Lists.{firsts, repeated, standardized}
 use Rattle.utilities.specs.Columns.{each, eachPair}
 use Rattle.base.specs.Form.{Form, Laid, intType}
 use Rattle.base.specs.Sheet.{Nature, absent, wholeRange, floatRange, wholeLists, boolLists, floatLists}
-use Rattle.base.specs.Encode.{entryCount, valueCount, total}
+use Rattle.base.specs.Encode.{entryCount, valueCount}
 use Rattle.base.specs.declared.Component.{Component}
 use Rattle.base.specs.declared.Component.the-variants as C
 use Rattle.ends.specs.Ends.{endRule}
 use Rattle.ends.specs.Ranges.{wholeRule, rangePair, rangeAlone}
-use Rattle.category_lists.specs.Categories.{remainder, modWhole, powerWhole, categoryRule, ruled, pairs, product, combined, mapped, counted, limited}
-use Rattle.calls.specs.Natures.{wholeListsOf, listsPair, listsAlone, wholeRangeWith, floatRangeWith, listsWith, binaryNature, unaryNature}
-use Rattle.round_trip.specs.WellFormed.{Each, Whole, Double, SpanFits, NatureFits}
+use Rattle.category_lists.specs.Categories.{remainder, modWhole, powerWhole, categoryRule, ruled, pairs, product, combined, mapped, union, united, keptTo, limited}
+use Rattle.calls.specs.Natures.{wholeListsOf, boolListsOf, unitedNature, listsUnited, listsPair, listsAlone, wholeRangeWith, floatRangeWith, listsWith, twoNatures, binaryNature, poolNature, unaryNature}
+use Rattle.round_trip.specs.WellFormed.{Each, Whole, Double, Bits, SpanFits, NatureFits}
 use Rattle.derived.specs.Held.{ValuesAllowed}
 use Rattle.derived.proofs.Answers.{checked-rest}
-use Rattle.derived.proofs.Each.{each-append, each-repeated, each-firsts, each-map, repeated-within, each-length, pair-length}
+use Rattle.derived.proofs.Each.{each-append, each-repeated, each-weaken, each-firsts, each-map, repeated-within, each-length, pair-length}
 use Rattle.derived.proofs.Gives.{Gives, gives-more, gives-then, gives-checked, each-gives, pair-gives}
 use Rattle.derived.proofs.Fitted.{fitting-fits, whole-fits, float-fits, rule-fits, whole-rule-fits}
 
@@ -90,6 +93,7 @@ category-fits C.Power type = go (eqb type intType)
     go true = λ a b p q. power-fits a b
     go false = tt
 category-fits C.Negative type = λ a b p q. whole-fits .neg a p
+category-fits C.Pool type = tt
 
 -- ---- lists
 
@@ -113,90 +117,103 @@ module _ {X : Type 0} (P : X → Type 0) (same : X → X → Bool) where
     unfolding product
     product-fits us bs p q = gives-then (Each P) (Each P) (pairs rule us bs) _ (pairs-fit us bs p q) (λ cs f. each-firsts P same cs f)
 
+  union-fits : (us bs : List X) → Each P us → Each P bs → Gives (Each P) (union same us bs)
+  unfolding union
+  union-fits us bs p q = each-firsts P same (us ++ bs) (each-append P us bs p q)
+
 standard-within : {X : Type 0} (same : X → X → Bool) (columns k : ℕ) (ls : List (List X)) → columns ≤ k → length ls ≤ k → length (standardized same columns ls) ≤ k
 unfolding standardized
 standard-within same columns k ls h l = repeated-within columns k (map (firsts same) ls) h (rw length-map l)
 
 -- ---- natures
 
-pub record Made (F : Form) (limit : ℕ) (k : Nature) : Type 0 where
+-- however many categories it holds
+pub record Made (F : Form) (k : Nature) : Type 0 where
   pub entries : entryCount k ≤ F .listLimit
-  pub values : valueCount k ≤ limit
   pub fits : NatureFits F k
   pub allowed : ValuesAllowed k
+
+pub record Kept (F : Form) (limit : ℕ) (k : Nature) : Type 0 where
+  pub made : Made F k
+  pub values : valueCount k ≤ limit
 
 -- at most as many as a sheet may have
 abbrev Few : Form → {X : Type 0} → (X → Type 0) → List X → Type 0
 Few F P xs = (length xs ≤ F .listLimit) × Each P xs
 
-module _ {F : Form} (laid : Laid F) (limit : ℕ) where
-  none-made : Made F limit absent
-  none-made = record { entries = omega arith; values = omega arith; fits = tt; allowed = tt }
+-- bool categories that 4 permits
+abbrev Bools : List ℕ → Type 0
+Bools l = Each (λ v. v ≤ 1) l
 
-  counted-made : (ls : List (List ℤ)) → Few F Wholes ls → Gives (λ ms. Made F limit (wholeLists ms)) (counted limit ls)
-  unfolding counted
-  counted-made ls f = go (ltb limit (total ls)) refl
+module _ {F : Form} (laid : Laid F) where
+  wholes-in : (k : Nature) → NatureFits F k → Each Wholes (wholeListsOf k)
+  wholes-in absent p = tt
+  wholes-in (wholeRange rs) p = tt
+  wholes-in (floatRange rs) p = tt
+  wholes-in (wholeLists ls) p = p .values
+  wholes-in (boolLists ls) p = tt
+  wholes-in (floatLists ls) p = tt
+
+  bools-in : (k : Nature) → ValuesAllowed k → Each Bools (boolListsOf k)
+  bools-in absent p = tt
+  bools-in (wholeRange rs) p = tt
+  bools-in (floatRange rs) p = tt
+  bools-in (wholeLists ls) p = tt
+  bools-in (boolLists ls) p = p
+  bools-in (floatLists ls) p = tt
+
+  absent-made : Made F absent
+  absent-made = record { entries = omega arith; fits = tt; allowed = tt }
+
+  whole-lists-made : (ls : List (List ℤ)) → Few F Wholes ls → Made F (wholeLists ls)
+  whole-lists-made ls f = let n = f .0 in record { entries = n; fits = record { numbers = omega (arith, laid .listsNumbered); values = f .1 }; allowed = tt }
+
+  bool-lists-made : (ls : List (List ℕ)) → Few F Bools ls → Made F (boolLists ls)
+  bool-lists-made ls f =
+      let n = f .0 in
+      record {
+        entries = n;
+        fits = record {
+          numbers = omega (arith, laid .listsNumbered);
+          values = each-weaken Bools (Each Bits) (λ l p. each-weaken (λ v. v ≤ 1) Bits (λ v h. omega arith) l p) ls (f .1);
+        };
+        allowed = f .1;
+      }
+
+  pub kept-to : (limit : ℕ) (k : Nature) → Made F k → Gives (Kept F limit) (keptTo limit k)
+  unfolding keptTo
+  kept-to limit k m = go (ltb limit (valueCount k)) refl
     where
-      go : (t : Bool) → ltb limit (total ls) ≡ t → Gives (λ ms. Made F limit (wholeLists ms)) (cond t (refused 26) (ok ls))
+      go : (t : Bool) → ltb limit (valueCount k) ≡ t → Gives (Kept F limit) (cond t (refused 26) (ok k))
       go true h = omega arith
-      go false h =
-          let n = f .0 in
-          record { entries = n; values = ltb-false limit (total ls) h; fits = record { numbers = omega (arith, laid .listsNumbered); values = f .1 }; allowed = tt }
+      go false h = record { made = m; values = ltb-false limit (valueCount k) h }
 
-  limited-made : (g : Result (List (List ℤ))) → Gives (Few F Wholes) g → Gives (Made F limit) (limited limit g)
-  limited-made g h =
-      gives-then (Few F Wholes) (Made F limit) g _ h
-      (λ ls f. gives-then (λ ms. Made F limit (wholeLists ms)) (Made F limit) (counted limit ls) _ (counted-made ls f) (λ ms m. m))
+  limited-kept : (limit : ℕ) (g : Result (List (List ℤ))) → Gives (Few F Wholes) g → Gives (Kept F limit) (limited limit g)
+  limited-kept limit g h = gives-then (Few F Wholes) (Kept F limit) g _ h (λ ls f. kept-to limit (wholeLists ls) (whole-lists-made ls f))
 
-  ruled-made : (o : Option (ℤ → ℤ → Result ℤ)) (rest : (ℤ → ℤ → Result ℤ) → Result Nature) → MaybeFits o
-      → ((rule : ℤ → ℤ → Result ℤ) → RuleFits rule → Gives (Made F limit) (rest rule)) → Gives (Made F limit) (ruled o rest)
-  ruled-made none rest f h = omega arith
-  ruled-made (some rule) rest f h = h rule f
+  ruled-kept : (limit : ℕ) (o : Option (ℤ → ℤ → Result ℤ)) (rest : (ℤ → ℤ → Result ℤ) → Result Nature) → MaybeFits o
+      → ((rule : ℤ → ℤ → Result ℤ) → RuleFits rule → Gives (Kept F limit) (rest rule)) → Gives (Kept F limit) (ruled o rest)
+  ruled-kept limit none rest f h = omega arith
+  ruled-kept limit (some rule) rest f h = h rule f
 
-  module _ (c : Component) (type columns : ℕ) (few : columns ≤ F .columnLimit) where
+  module _ (columns : ℕ) (few : columns ≤ F .columnLimit) where
     listed : columns ≤ F .listLimit
     listed = omega (arith, laid .columnsListed)
 
-    pair-made : (ls : List (List ℤ)) (r : Nature) → length ls ≤ F .listLimit → Each Wholes ls → Each Wholes (wholeListsOf r)
-        → Gives (Made F limit) (listsPair limit c type columns (wholeLists ls) r)
-    unfolding listsPair combined
-    pair-made ls r n p q =
-        let us = standardized eqZ columns ls in
-        let vs = standardized eqZ columns (wholeListsOf r) in
-        gives-checked (Made F limit) _ _ refl
-        (ruled-made (categoryRule c type) _ (category-fits c type)
-        (λ rule f.
-        limited-made (eachPair (product eqZ rule) us vs)
-        (gives-more (Each Wholes) (Few F Wholes) (eachPair (product eqZ rule) us vs)
-        (pair-gives Wholes Wholes (product eqZ rule) (product-fits Whole eqZ rule f) us vs (standard-each Whole eqZ columns ls p) (standard-each Whole eqZ columns (wholeListsOf r) q))
-        (λ ns e m.
-        let a = pair-length (product eqZ rule) us vs e in
-        let b = standard-within eqZ columns (F .listLimit) ls listed n in
-        (omega arith, m)))))
-
-    alone-made : (ls : List (List ℤ)) → length ls ≤ F .listLimit → Each Wholes ls → Gives (Made F limit) (listsAlone limit c type columns (wholeLists ls))
-    unfolding listsAlone mapped
-    alone-made ls n p =
-        let us = standardized eqZ columns ls in
-        gives-checked (Made F limit) _ _ refl
-        (ruled-made (categoryRule c type) _ (category-fits c type)
-        (λ rule f.
-        limited-made (each (each (λ a. rule a a)) us)
-        (gives-more (Each Wholes) (Few F Wholes) (each (each (λ a. rule a a)) us)
-        (each-gives Wholes Wholes (each (λ a. rule a a)) (λ l q. each-gives Whole Whole (λ a. rule a a) (λ a w. f a a w w) l q) us (standard-each Whole eqZ columns ls p))
-        (λ ns e m.
-        let a = each-length (each (λ a. rule a a)) us e in
-        let b = standard-within eqZ columns (F .listLimit) ls listed n in
-        (omega arith, m)))))
-
-    -- bool and float categories have no rule
-    no-bool : (ls : List (List ℕ)) (r : Nature) → Gives (Made F limit) (listsPair limit c type columns (boolLists ls) r)
-    unfolding listsPair
-    no-bool ls r = gives-checked (Made F limit) _ (refused 22) refl (omega arith)
-
-    no-float : (ls : List (List ℕ)) (r : Nature) → Gives (Made F limit) (listsPair limit c type columns (floatLists ls) r)
-    unfolding listsPair
-    no-float ls r = gives-checked (Made F limit) _ (refused 22) refl (omega arith)
+    -- two operands' lists, joined list by list
+    module _ {X : Type 0} (P : X → Type 0) (same : X → X → Bool) (join : List X → List X → Result (List X))
+        (fit : (us bs : List X) → Each P us → Each P bs → Gives (Each P) (join us bs)) where
+      joined-few : (ls ms : List (List X)) → length ls ≤ F .listLimit → Each (Each P) ls → Each (Each P) ms
+          → Gives (Few F (Each P)) (eachPair join (standardized same columns ls) (standardized same columns ms))
+      joined-few ls ms n p q =
+          let us = standardized same columns ls in
+          let vs = standardized same columns ms in
+          gives-more (Each (Each P)) (Few F (Each P)) (eachPair join us vs)
+          (pair-gives (Each P) (Each P) join fit us vs (standard-each P same columns ls p) (standard-each P same columns ms q))
+          (λ ns e m.
+          let a = pair-length join us vs e in
+          let b = standard-within same columns (F .listLimit) ls listed n in
+          (omega arith, m))
 
     module _ {E : Type 0} (P : E → Type 0) (rule : Span E → Span E → Result (Span E))
         (fit : (x y : Span E) → SpanFits P x → SpanFits P y → Gives (SpanFits P) (rule x y)) where
@@ -223,61 +240,127 @@ module _ {F : Form} (laid : Laid F) (limit : ℕ) where
           let b = repeated-within columns (F .listLimit) xs listed n in
           (omega arith, f))
 
-    whole-made : (g : Result (List (Span ℤ))) → Gives (Few F (SpanFits Whole)) g → Gives (Made F limit) (andThen g (λ zs. ok (wholeRange zs)))
-    whole-made g h = gives-then (Few F (SpanFits Whole)) (Made F limit) g _ h (λ zs f. record { entries = f .0; values = omega arith; fits = f .1; allowed = tt })
+    -- what holds of every nature that holds no categories
+    module _ (Q : Nature → Type 0) (plain : (k : Nature) → Made F k → valueCount k ≡ 0 → Q k) where
+      absent-gives : Q absent
+      absent-gives = plain absent absent-made refl
 
-    float-made : (g : Result (List (Span Float))) → Gives (Few F (SpanFits Double)) g → Gives (Made F limit) (andThen g (λ zs. ok (floatRange zs)))
-    float-made g h = gives-then (Few F (SpanFits Double)) (Made F limit) g _ h (λ zs f. record { entries = f .0; values = omega arith; fits = f .1; allowed = tt })
+      whole-gives : (g : Result (List (Span ℤ))) → Gives (Few F (SpanFits Whole)) g → Gives Q (andThen g (λ zs. ok (wholeRange zs)))
+      whole-gives g h = gives-then (Few F (SpanFits Whole)) Q g _ h (λ zs f. plain (wholeRange zs) (record { entries = f .0; fits = f .1; allowed = tt }) refl)
 
-    whole-with : (xs : List (Span ℤ)) (r : Nature) → length xs ≤ F .listLimit → Each (SpanFits Whole) xs → NatureFits F r
-        → Gives (Made F limit) (wholeRangeWith limit c type columns xs r)
-    unfolding wholeRangeWith
-    whole-with xs absent n p q = none-made
-    whole-with xs (wholeRange ys) n p q =
-        whole-made (rangePair (wholeRule c type) columns xs ys) (range-few Whole (wholeRule c type) (whole-rule-fits c type) xs ys n p q)
-    whole-with xs (floatRange ys) n p q = omega arith
-    whole-with xs (wholeLists ms) n p q = none-made
-    whole-with xs (boolLists ms) n p q = none-made
-    whole-with xs (floatLists ms) n p q = none-made
+      float-gives : (g : Result (List (Span Float))) → Gives (Few F (SpanFits Double)) g → Gives Q (andThen g (λ zs. ok (floatRange zs)))
+      float-gives g h = gives-then (Few F (SpanFits Double)) Q g _ h (λ zs f. plain (floatRange zs) (record { entries = f .0; fits = f .1; allowed = tt }) refl)
 
-    float-with : (xs : List (Span Float)) (r : Nature) → length xs ≤ F .listLimit → Each (SpanFits Double) xs → NatureFits F r
-        → Gives (Made F limit) (floatRangeWith limit c type columns xs r)
-    unfolding floatRangeWith
-    float-with xs absent n p q = none-made
-    float-with xs (wholeRange ys) n p q = omega arith
-    float-with xs (floatRange ys) n p q =
-        float-made (rangePair (endRule float c) columns xs ys) (range-few Double (endRule float c) (rule-fits float Double float-fits c) xs ys n p q)
-    float-with xs (wholeLists ms) n p q = none-made
-    float-with xs (boolLists ms) n p q = none-made
-    float-with xs (floatLists ms) n p q = none-made
+      module _ (c : Component) (type : ℕ) (together : Nature → Nature → Result Nature) where
+        whole-with : (xs : List (Span ℤ)) (r : Nature) → length xs ≤ F .listLimit → Each (SpanFits Whole) xs → NatureFits F r
+            → Gives Q (wholeRangeWith c type columns together xs r)
+        unfolding wholeRangeWith
+        whole-with xs absent n p q = absent-gives
+        whole-with xs (wholeRange ys) n p q =
+            whole-gives (rangePair (wholeRule c type) columns xs ys) (range-few Whole (wholeRule c type) (whole-rule-fits c type) xs ys n p q)
+        whole-with xs (floatRange ys) n p q = omega arith
+        whole-with xs (wholeLists ms) n p q = absent-gives
+        whole-with xs (boolLists ms) n p q = absent-gives
+        whole-with xs (floatLists ms) n p q = absent-gives
 
-    lists-with : (l r : Nature) → ((r : Nature) → Each Wholes (wholeListsOf r) → Gives (Made F limit) (listsPair limit c type columns l r))
-        → NatureFits F r → Gives (Made F limit) (listsWith limit c type columns l r)
-    unfolding listsWith
-    lists-with l absent h q = none-made
-    lists-with l (wholeRange ys) h q = none-made
-    lists-with l (floatRange ys) h q = none-made
-    lists-with l (wholeLists ms) h q = h (wholeLists ms) (q .values)
-    lists-with l (boolLists ms) h q = h (boolLists ms) tt
-    lists-with l (floatLists ms) h q = h (floatLists ms) tt
+        float-with : (xs : List (Span Float)) (r : Nature) → length xs ≤ F .listLimit → Each (SpanFits Double) xs → NatureFits F r
+            → Gives Q (floatRangeWith c type columns together xs r)
+        unfolding floatRangeWith
+        float-with xs absent n p q = absent-gives
+        float-with xs (wholeRange ys) n p q = omega arith
+        float-with xs (floatRange ys) n p q =
+            float-gives (rangePair (endRule float c) columns xs ys) (range-few Double (endRule float c) (rule-fits float Double float-fits c) xs ys n p q)
+        float-with xs (wholeLists ms) n p q = absent-gives
+        float-with xs (boolLists ms) n p q = absent-gives
+        float-with xs (floatLists ms) n p q = absent-gives
 
-    pub binary-made : (l r : Nature) → entryCount l ≤ F .listLimit → NatureFits F l → NatureFits F r
-        → Gives (Made F limit) (binaryNature limit c type columns l r)
-    unfolding binaryNature
-    binary-made absent r n p q = none-made
-    binary-made (wholeRange xs) r n p q = whole-with xs r n p q
-    binary-made (floatRange xs) r n p q = float-with xs r n p q
-    binary-made (wholeLists ls) r n p q = lists-with (wholeLists ls) r (λ r f. pair-made ls r n (p .values) f) q
-    binary-made (boolLists ls) r n p q = lists-with (boolLists ls) r (λ r f. no-bool ls r) q
-    binary-made (floatLists ls) r n p q = lists-with (floatLists ls) r (λ r f. no-float ls r) q
+        lists-with : (l r : Nature) → Gives Q (together l r) → Gives Q (listsWith c type columns together l r)
+        unfolding listsWith
+        lists-with l absent h = absent-gives
+        lists-with l (wholeRange ys) h = absent-gives
+        lists-with l (floatRange ys) h = absent-gives
+        lists-with l (wholeLists ms) h = h
+        lists-with l (boolLists ms) h = h
+        lists-with l (floatLists ms) h = h
 
-    pub unary-made : (l : Nature) → entryCount l ≤ F .listLimit → NatureFits F l → Gives (Made F limit) (unaryNature limit c type columns l)
-    unfolding unaryNature listsAlone
-    unary-made absent n p = none-made
-    unary-made (wholeRange xs) n p =
-        whole-made (rangeAlone (endRule whole c) columns xs) (alone-few Whole (endRule whole c) (rule-fits whole Whole whole-fits c) xs n p)
-    unary-made (floatRange xs) n p =
-        float-made (rangeAlone (endRule float c) columns xs) (alone-few Double (endRule float c) (rule-fits float Double float-fits c) xs n p)
-    unary-made (wholeLists ls) n p = alone-made ls n (p .values)
-    unary-made (boolLists ls) n p = gives-checked (Made F limit) _ (refused 22) refl (omega arith)
-    unary-made (floatLists ls) n p = gives-checked (Made F limit) _ (refused 22) refl (omega arith)
+        two-give : (l r : Nature) → Made F l → Made F r → Gives Q (together l r) → Gives Q (twoNatures c type columns together l r)
+        unfolding twoNatures
+        two-give absent r p q h = absent-gives
+        two-give (wholeRange xs) r p q h = whole-with xs r (p .entries) (p .fits) (q .fits)
+        two-give (floatRange xs) r p q h = float-with xs r (p .entries) (p .fits) (q .fits)
+        two-give (wholeLists ls) r p q h = lists-with (wholeLists ls) r h
+        two-give (boolLists ls) r p q h = lists-with (boolLists ls) r h
+        two-give (floatLists ls) r p q h = lists-with (floatLists ls) r h
+
+    -- ---- Pool
+
+    united-made : (l r : Nature) → Made F l → Made F r → Gives (Made F) (unitedNature columns l r)
+    unfolding united
+    united-made absent r p q = absent-made
+    united-made (wholeRange xs) r p q = absent-made
+    united-made (floatRange xs) r p q = absent-made
+    united-made (wholeLists ls) r p q =
+        gives-then (Few F Wholes) (Made F) (united eqZ columns ls (wholeListsOf r)) _
+        (joined-few Whole eqZ (union eqZ) (union-fits Whole eqZ) ls (wholeListsOf r) (p .entries) (p .fits .values) (wholes-in r (q .fits))) whole-lists-made
+    united-made (boolLists ls) r p q =
+        gives-then (Few F Bools) (Made F) (united eqb columns ls (boolListsOf r)) _
+        (joined-few (λ v. v ≤ 1) eqb (union eqb) (union-fits (λ v. v ≤ 1) eqb) ls (boolListsOf r) (p .entries) (p .allowed) (bools-in r (q .allowed))) bool-lists-made
+    united-made (floatLists ls) r p q = absent-made
+
+    pub pool-made : (c : Component) (type : ℕ) (l r : Nature) → Made F l → Made F r → Gives (Made F) (poolNature c type columns l r)
+    unfolding listsUnited
+    pool-made c type l r p q =
+        two-give (Made F) (λ k m e. m) c type (listsUnited columns) l r p q
+        (gives-checked (Made F) _ (unitedNature columns l r) refl (united-made l r p q))
+
+    -- ---- the other components
+
+    module _ (limit : ℕ) (c : Component) (type : ℕ) where
+      plain-kept : (k : Nature) → Made F k → valueCount k ≡ 0 → Kept F limit k
+      plain-kept k m e = record { made = m; values = omega (arith, e) }
+
+      -- whole categories alone have a rule
+      pair-kept : (l r : Nature) → Made F l → Made F r → Gives (Kept F limit) (listsPair limit c type columns l r)
+      unfolding listsPair combined
+      pair-kept absent r p q = gives-checked (Kept F limit) _ (refused 22) refl (omega arith)
+      pair-kept (wholeRange xs) r p q = gives-checked (Kept F limit) _ (refused 22) refl (omega arith)
+      pair-kept (floatRange xs) r p q = gives-checked (Kept F limit) _ (refused 22) refl (omega arith)
+      pair-kept (wholeLists ls) r p q =
+          gives-checked (Kept F limit) _ _ refl
+          (ruled-kept limit (categoryRule c type) _ (category-fits c type)
+          (λ rule f.
+          limited-kept limit (combined eqZ rule columns ls (wholeListsOf r))
+          (joined-few Whole eqZ (product eqZ rule) (product-fits Whole eqZ rule f) ls (wholeListsOf r) (p .entries) (p .fits .values) (wholes-in r (q .fits)))))
+      pair-kept (boolLists ls) r p q = gives-checked (Kept F limit) _ (refused 22) refl (omega arith)
+      pair-kept (floatLists ls) r p q = gives-checked (Kept F limit) _ (refused 22) refl (omega arith)
+
+      alone-kept : (ls : List (List ℤ)) → length ls ≤ F .listLimit → Each Wholes ls → Gives (Kept F limit) (listsAlone limit c type columns (wholeLists ls))
+      unfolding listsAlone mapped
+      alone-kept ls n p =
+          let us = standardized eqZ columns ls in
+          gives-checked (Kept F limit) _ _ refl
+          (ruled-kept limit (categoryRule c type) _ (category-fits c type)
+          (λ rule f.
+          limited-kept limit (each (each (λ a. rule a a)) us)
+          (gives-more (Each Wholes) (Few F Wholes) (each (each (λ a. rule a a)) us)
+          (each-gives Wholes Wholes (each (λ a. rule a a)) (λ l q. each-gives Whole Whole (λ a. rule a a) (λ a w. f a a w w) l q) us (standard-each Whole eqZ columns ls p))
+          (λ ns e m.
+          let a = each-length (each (λ a. rule a a)) us e in
+          let b = standard-within eqZ columns (F .listLimit) ls listed n in
+          (omega arith, m)))))
+
+      pub binary-kept : (l r : Nature) → Made F l → Made F r → Gives (Kept F limit) (binaryNature limit c type columns l r)
+      binary-kept l r p q = two-give (Kept F limit) plain-kept c type (listsPair limit c type columns) l r p q (pair-kept l r p q)
+
+      pub unary-kept : (l : Nature) → Made F l → Gives (Kept F limit) (unaryNature limit c type columns l)
+      unfolding unaryNature listsAlone
+      unary-kept absent p = plain-kept absent absent-made refl
+      unary-kept (wholeRange xs) p =
+          whole-gives (Kept F limit) plain-kept (rangeAlone (endRule whole c) columns xs)
+          (alone-few Whole (endRule whole c) (rule-fits whole Whole whole-fits c) xs (p .entries) (p .fits))
+      unary-kept (floatRange xs) p =
+          float-gives (Kept F limit) plain-kept (rangeAlone (endRule float c) columns xs)
+          (alone-few Double (endRule float c) (rule-fits float Double float-fits c) xs (p .entries) (p .fits))
+      unary-kept (wholeLists ls) p = alone-kept ls (p .entries) (p .fits .values)
+      unary-kept (boolLists ls) p = gives-checked (Kept F limit) _ (refused 22) refl (omega arith)
+      unary-kept (floatLists ls) p = gives-checked (Kept F limit) _ (refused 22) refl (omega arith)

@@ -38,6 +38,7 @@ unary-any c n l r = go (familyOf c)
     go Fam.Unary e = refl
     go Fam.Pair e = absurd (subst T (sym e) tt)
     go Fam.Copy e = absurd (subst T (sym e) tt)
+    go Fam.Pool e = absurd (subst T (sym e) tt)
 
 module _ {F : Form} (laid : Laid F) (c : Component) (left right : List ℕ) where
   abbrev Deriving : Sheet → Type 0

@@ -2,9 +2,9 @@
 use mathlib.Core.Path.{_≡_, refl, ap₂, _∙_}
 use mathlib.Core.Option.{Option, some}
 use Rattle.numbers.specs.Result.{Result, ok, refused}
-use Rattle.numbers.specs.Kind.{Kind, Span}
+use Rattle.numbers.specs.Kind.{Kind, Span, lesser, greater}
 use Rattle.base.specs.declared.Bound.{Bound}
-use Rattle.ends.specs.Ends.{fromTwo, fromOne, both, negEnds, modEnds}
+use Rattle.ends.specs.Ends.{fromTwo, fromOne, both, negEnds, modEnds, poolEnds}
 use Rattle.ends.specs.Code.{endOf, endsOf, bothEnds}
 use Rattle.ends.specs.declared.End.{End}
 use Rattle.ends.specs.declared.Ends.{Ends}
@@ -36,3 +36,10 @@ module _ {E : Type 0} (bound : Option E → Bound) where
         → u ≡ endOf bound (fromOne (K .last) (y .upper)) → r ≡ bothEnds (endOf bound (ok (some (K .zero)))) u → r ≡ endsOf bound (modEnds K x y)
     unfolding modEnds
     mod-ends x y = both-answer (ok (some (K .zero))) (fromOne (K .last) (y .upper)) refl
+
+    pub pool-ends : (x y : Span E) {l u : End} {r : Ends}
+        → l ≡ endOf bound (fromTwo (λ a d. ok (lesser K a d)) (x .lower) (y .lower))
+        → u ≡ endOf bound (fromTwo (λ c f. ok (greater K f c)) (x .upper) (y .upper)) → r ≡ bothEnds l u
+        → r ≡ endsOf bound (poolEnds K x y)
+    unfolding poolEnds
+    pool-ends x y = both-answer (fromTwo (λ a d. ok (lesser K a d)) (x .lower) (y .lower)) (fromTwo (λ c f. ok (greater K f c)) (x .upper) (y .upper))

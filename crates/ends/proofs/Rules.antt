@@ -37,7 +37,7 @@ module _ {E : Type 0} (K : Kind E) (a c d f : E) where
   unfolding divPresent
   div-below e₁ e₂ = rw (e₁, e₂)
 
--- the tags of `Component` go from 0 Abs to 8 Negative: 6 is Log and 7 Power
+-- the tags of `Component` go from 0 Abs to 9 Pool: 6 is Log and 7 Power
 pub rule-absent : {E : Type 0} (K : Kind E) (x y : Span E) (c : Component) → OneOf (6 ∷ 7 ∷ []) (tagOf Component.the-type c) → endRule K c x y ≡ unknown
 unfolding endRule
 rule-absent K x y C.Abs h = absurd (⊎-elim (λ (e : 0 ≡ 6). omega arith) (λ (e : 0 ≡ 7). omega arith) h)
@@ -49,3 +49,4 @@ rule-absent K x y C.Modulo h = absurd (⊎-elim (λ (e : 5 ≡ 6). omega arith) 
 rule-absent K x y C.Log h = refl
 rule-absent K x y C.Power h = refl
 rule-absent K x y C.Negative h = absurd (⊎-elim (λ (e : 8 ≡ 6). omega arith) (λ (e : 8 ≡ 7). omega arith) h)
+rule-absent K x y C.Pool h = absurd (⊎-elim (λ (e : 9 ≡ 6). omega arith) (λ (e : 9 ≡ 7). omega arith) h)

@@ -1,4 +1,4 @@
--- 01, "Range ends": the end rules of the nine components, written once over the element kind. Operands are [a, c] on the left and [d, f] on the right.
+-- 01, "Range ends", and 02, S-1: the end rules of the ten components, written once over the element kind. Operands are [a, c] on the left and [d, f] on the right.
 use mathlib.Core.Bool.{cond, not, _&&_, _||_}
 use mathlib.Core.Option.{Option, none, some}
 use Rattle.numbers.specs.Result.{Result, ok, refused, andThen}
@@ -105,6 +105,11 @@ module _ {E : Type 0} (K : Kind E) where
   unfoldable pub modEnds : Span E → Span E → Result (Span E)
   modEnds x y = both (ok (some (K .zero))) (fromOne (K .last) (y .upper))
 
+  -- 02, S-1: "the new lower is the lesser and the new upper the greater, left's on a tie, absent if either is absent". (On a tie `lesser` gives its first
+  -- argument and `greater` its second)
+  unfoldable pub poolEnds : Span E → Span E → Result (Span E)
+  poolEnds x y = both (fromTwo (λ a d. ok (lesser K a d)) (x .lower) (y .lower)) (fromTwo (λ c f. ok (greater K f c)) (x .upper) (y .upper))
+
   -- one rule for each component; 01: "Log ..: ends absent", "Power ..: ends absent". Abs and Negative read the left alone
   unfoldable pub endRule : Component → Span E → Span E → Result (Span E)
   endRule C.Abs x y = absEnds x
@@ -116,3 +121,4 @@ module _ {E : Type 0} (K : Kind E) where
   endRule C.Log x y = unknown
   endRule C.Power x y = unknown
   endRule C.Negative x y = negEnds x
+  endRule C.Pool x y = poolEnds x y

@@ -27,6 +27,7 @@ wholeRule C.Divide type x y = endRule whole C.Divide x y
 wholeRule C.Log type x y = endRule whole C.Log x y
 wholeRule C.Power type x y = endRule whole C.Power x y
 wholeRule C.Negative type x y = endRule whole C.Negative x y
+wholeRule C.Pool type x y = endRule whole C.Pool x y
 
 -- 01: "Lists of one entry spread over the columns", after 18 has passed the lists, left's first
 unfoldable pub rangePair : {E : Type 0} → (Span E → Span E → Result (Span E)) → ℕ → List (Span E) → List (Span E) → Result (List (Span E))

@@ -1,4 +1,4 @@
-// Document 01's shelf examples and traps: sheets are built, the gate derives, and what its output says is written with both signs.
+// Document 01's shelf examples and traps, and Pool of document 02: sheets are built, the gate derives, and what its output says is written with both signs.
 mod sheet; // operands
 mod show; // what bytes say
 
@@ -89,15 +89,15 @@ fn categories_alone(component: u32, a: i64, b: i64) {
     line_end();
 }
 
-// A sum of two values on each side: `lists` lists on the left, one on the right.
-fn sum_of_categories(a: i64, b: i64, lists: u8, columns: u8) {
+// Two values on each side: `lists` lists on the left, one of 10 and 11 on the right.
+fn with_categories(component: u32, a: i64, b: i64, lists: u8, columns: u8) {
     let mut left = [0u8; form::NARROW_LONGEST];
     let mut right = [0u8; form::NARROW_LONGEST];
     let mut out = [0u8; form::NARROW_LONGEST];
     let l = sheet::categories(&mut left, a, b, lists, columns);
     let r = sheet::categories(&mut right, 10, 11, 1, columns);
     derive(
-        Component::ADD,
+        component,
         show::front(&left, l),
         show::front(&right, r),
         &mut out,
@@ -187,7 +187,19 @@ fn starred_too() {
     pair(Component::MODULO, sheet::whole(0, 1), sheet::whole(0, 8), 1);
     alone(Component::NEGATIVE, Ends(Bound::Whole(-5), Bound::Absent));
     alone(Component::NEGATIVE, sheet::whole(-9223372036854775808, 0));
-    sum_of_categories(1, 2, 1, 1);
+    with_categories(Component::ADD, 1, 2, 1, 1);
+}
+
+fn pooled() {
+    pair(Component::POOL, sheet::whole(1, 2), sheet::whole(-3, 5), 1);
+    pair(
+        Component::POOL,
+        Ends(Bound::Whole(1), Bound::Absent),
+        sheet::whole(-3, 5),
+        1,
+    );
+    with_categories(Component::POOL, 11, 2, 1, 1);
+    with_categories(Component::POOL, 1, 2, 2, 3);
 }
 
 fn main() {
@@ -201,6 +213,8 @@ fn main() {
     io::write_all(STDOUT_FILENO, b"Traps\n");
     alone(Component::ABS, sheet::whole(0, 5));
     node_of_modulo();
-    sum_of_categories(1, 2, 2, 3);
+    with_categories(Component::ADD, 1, 2, 2, 3);
     rows_of_one_dataset();
+    io::write_all(STDOUT_FILENO, b"Pool\n");
+    pooled();
 }

@@ -1,4 +1,4 @@
-// The end rules of the nine components on floats. An entry is [a, c] on the left and [d, f] on the right.
+// The end rules of the ten components on floats. An entry is [a, c] on the left and [d, f] on the right.
 use base::Bound;
 use base::Component;
 use base::refusals;
@@ -245,6 +245,33 @@ fn div_ends(x: Range, y: Range) -> Ends
     div_by(a, c, lower, upper)
 }
 
+// ---- Pool: the lesser lower and the greater upper, left's on a tie
+
+fn pool_lower(x: Bound, y: Bound) -> Bound
+    ensures { λ r. ⌜ End.Is r ≡ endOf ofFloat (fromTwo (λ a d. ok (lesser float a d)) (floatEnd x) (floatEnd y)) ⌝ }
+{
+    let Bound::Float(a) = x else {
+        return Bound::Absent;
+    };
+    let Bound::Float(d) = y else {
+        return Bound::Absent;
+    };
+    Bound::Float(lesser(a, d))
+}
+
+// On a tie `greater` gives its second argument.
+fn pool_upper(x: Bound, y: Bound) -> Bound
+    ensures { λ r. ⌜ End.Is r ≡ endOf ofFloat (fromTwo (λ c f. ok (greater float f c)) (floatEnd x) (floatEnd y)) ⌝ }
+{
+    let Bound::Float(c) = x else {
+        return Bound::Absent;
+    };
+    let Bound::Float(f) = y else {
+        return Bound::Absent;
+    };
+    Bound::Float(greater(f, c))
+}
+
 // ---- the choice by component
 
 // Abs and Negative read x alone, Modulo y alone.
@@ -275,6 +302,10 @@ pub fn float_end_rule(c: Component, x: Range, y: Range) -> Ends
         Component::Negative => Ends::Are(Range {
             lower: neg_end(left_upper),
             upper: neg_end(left_lower),
+        }),
+        Component::Pool => Ends::Are(Range {
+            lower: pool_lower(left_lower, right_lower),
+            upper: pool_upper(left_upper, right_upper),
         }),
     }
 }

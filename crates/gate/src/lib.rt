@@ -14,7 +14,7 @@ ghost use Rattle.calls.specs.Walk as Walk;
 ghost use Rattle.containment.specs.Demand.{Contained};
 ghost use Rattle.replies.specs.Reply.{replied};
 
-// The step works in buffers that are made here; those for categories only where some are mapped or combined.
+// The step works in buffers that are made here; those for categories only where some are mapped, combined or united.
 #[no_mangle]
 pub extern "C" fn propagate_property(
     component: u32,

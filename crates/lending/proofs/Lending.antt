@@ -1,21 +1,21 @@
--- What a step is lent: the category stores, where whole categories are mapped or combined, and two buffers for the derived nature.
---     none-held                            left alone decides where it holds no lists
---     joined, alone                        whole categories are combined or mapped
+-- What a step is lent: the category stores, where categories are mapped, combined or united, and two buffers for the derived nature.
+--     none-held                            left alone decides where it holds no categories
+--     joined, alone, pooled                whole categories are combined or mapped, categories united
 --     used                                 so that the stores are there
 --     lent-alone                           a mapping is lent left's store for both operands
 --     range-room                           the buffers have room for a range of every column
 --     ends-room, lists-room                the arrays of a range, and of categories, keep to the room of a derived nature
 --     wider                                what keeps to a room keeps to a greater one
 -- Assumes nothing.
-use mathlib.Core.Path.{_≡_, refl, sym, ap, subst}
-use mathlib.Core.Bool.{Bool, true, false, cond}
+use mathlib.Core.Path.{_≡_, refl, sym, ap, subst, _∙_}
+use mathlib.Core.Bool.{Bool, true, false, cond, _&&_}
 use mathlib.Core.List.{List}
 use Prim.Native.Nat.{ℕ, _*_, _≤_}
 use native.Mathlib.Omega.{arith}
 use lib.IntN.{ℤ}
 use lib.ListN.{length}
-use borrow.Author.Tests.{le-leb}
-use Rattle.base.specs.Form.{Form, Laid}
+use borrow.Author.Tests.{le-leb, ne-eqb}
+use Rattle.base.specs.Form.{Form, Laid, byteAt, natureAt, wholeListsNature}
 use Rattle.base.specs.declared.Family.{Family}
 use Rattle.base.specs.declared.Family.the-variants as Fam
 use Rattle.base.proofs.Passed.{passed, long-enough}
@@ -24,30 +24,46 @@ use Rattle.writer.specs.declared.Derived.{Derived}
 use Rattle.writer.specs.declared.Derived.the-variants as D
 use Rattle.category_lists.specs.Answers.{Stores, Arrays}
 use Rattle.category_lists.specs.Columnwise.{Listed}
-use Rattle.lending.specs.Code.{Read, Ready, holdsLists, joinsLists, arraysRoom, Lent, Buffers}
-use lib.Dec.{T}
+use Rattle.lending.specs.Code.{Read, Ready, holdsCategories, holdsLists, joinsLists, arraysRoom, Lent, Buffers}
+use lib.Dec.{T, eqb, leb}
 use Rattle.base.specs.Components.{isUnary}
 
 -- a sheet that was read has its fields
 pub stands : {F : Form} {s : List ℕ} → Read F s → F .arraysAt ≤ length s
 stands {F} {s} r = long-enough (passed F s (r .sizes))
 
-listed-held : {F : Form} {s : List ℕ} → Listed F s → holdsLists F s ≡ true
-listed-held {F} {s} l = rw (le-leb (F .arraysAt) (length s) (long-enough (passed F s (l .passed))), l .nature)
+module _ {F : Form} {s : List ℕ} (l : Listed F s) where
+  listed-long : leb (F .arraysAt) (length s) ≡ true
+  listed-long = le-leb (F .arraysAt) (length s) (long-enough (passed F s (l .passed)))
 
--- left alone decides where it holds no lists
-pub none-held : (m : Family) (F : Form) (left right : List ℕ) → holdsLists F left ≡ false → false ≡ joinsLists m F left right
-none-held Fam.Unary F left right e = sym e
-none-held Fam.Pair F left right e = rw e
+  listed-held : byteAt F natureAt s ≡ wholeListsNature → holdsLists F s ≡ true
+  listed-held e = rw (listed-long, e)
+
+  categories-held : wholeListsNature ≤ byteAt F natureAt s → holdsCategories F s ≡ true
+  categories-held e = rw (listed-long, le-leb wholeListsNature (byteAt F natureAt s) e)
+
+-- whole categories are categories
+whole-held : (a : Bool) (k : ℕ) → (a && leb wholeListsNature k) ≡ false → (a && eqb k wholeListsNature) ≡ false
+whole-held false k e = refl
+whole-held true k e = ne-eqb k wholeListsNature (λ h. absurd (subst T (sym (le-leb wholeListsNature k (omega (arith, h))) ∙ e) tt))
+
+-- left alone decides where it holds no categories
+pub none-held : (m : Family) (F : Form) (left right : List ℕ) → holdsCategories F left ≡ false → false ≡ joinsLists m F left right
+none-held Fam.Unary F left right e = sym (whole-held (leb (F .arraysAt) (length left)) (byteAt F natureAt left) e)
+none-held Fam.Pair F left right e = rw (whole-held (leb (F .arraysAt) (length left)) (byteAt F natureAt left) e)
 none-held Fam.Copy F left right e = refl
+none-held Fam.Pool F left right e = rw e
 
--- two sheets of whole categories are combined, and one is mapped
+-- two sheets of whole categories are combined, one is mapped, and two of categories are united
 module _ {m : Family} {F : Form} where
-  pub joined : {left right : List ℕ} → m ≡ Fam.Pair → Listed F left → Listed F right → joinsLists m F left right ≡ true
-  joined e l r = rw (e, listed-held l, listed-held r)
+  pub joined : {left right : List ℕ} → m ≡ Fam.Pair → Listed F left → byteAt F natureAt left ≡ wholeListsNature → Listed F right → byteAt F natureAt right ≡ wholeListsNature → joinsLists m F left right ≡ true
+  joined e l x r y = rw (e, listed-held l x, listed-held r y)
 
-  pub alone : {left : List ℕ} → m ≡ Fam.Unary → Listed F left → joinsLists m F left left ≡ true
-  alone e l = rw (e, listed-held l)
+  pub alone : {left : List ℕ} → m ≡ Fam.Unary → Listed F left → byteAt F natureAt left ≡ wholeListsNature → joinsLists m F left left ≡ true
+  alone e l x = rw (e, listed-held l x)
+
+  pub pooled : {left right : List ℕ} → m ≡ Fam.Pool → Listed F left → wholeListsNature ≤ byteAt F natureAt left → Listed F right → wholeListsNature ≤ byteAt F natureAt right → joinsLists m F left right ≡ true
+  pooled e l x r y = rw (e, categories-held l x, categories-held r y)
 
 pub used :
     {m : Family} {F : Form} {left right : List ℕ} → joinsLists m F left right ≡ true
@@ -71,6 +87,7 @@ lent-alone Fam.Unary e p = (
 )
 lent-alone Fam.Pair e p = absurd (subst T (sym (ap isUnary e)) tt)
 lent-alone Fam.Copy e p = absurd (subst T (sym (ap isUnary e)) tt)
+lent-alone Fam.Pool e p = absurd (subst T (sym (ap isUnary e)) tt)
 
 pub range-room :
     {F : Form} {columns : ℕ} {first second : List ℕ} → Ready F columns first second → Laid F → (9 * columns ≤ length first) × (9 * columns ≤ length second)

@@ -25,15 +25,20 @@ pub record Ready (F : Form) (columns : ℕ) (first second : List ℕ) : Type 0 w
   pub first-room : 9 * F .listLimit ≤ length first
   pub second-room : 9 * F .listLimit ≤ length second
 
+-- a sheet of categories: whole, bool or float
+abbrev pub holdsCategories : Form → List ℕ → Bool
+holdsCategories F s = leb (F .arraysAt) (length s) && leb wholeListsNature (byteAt F natureAt s)
+
 -- a sheet of whole categories, which alone are mapped or combined
 abbrev pub holdsLists : Form → List ℕ → Bool
 holdsLists F s = leb (F .arraysAt) (length s) && eqb (byteAt F natureAt s) wholeListsNature
 
--- whether a step maps or combines categories. Modulo, Log and Power never do: 15 or 22 comes first
+-- whether a step maps, combines or unites categories. Modulo, Log and Power never do: 15 or 22 comes first
 abbrev pub joinsLists : Family → Form → List ℕ → List ℕ → Bool
 joinsLists Fam.Unary F left right = holdsLists F left
 joinsLists Fam.Pair F left right = holdsLists F left && holdsLists F right
 joinsLists Fam.Copy F left right = false
+joinsLists Fam.Pool F left right = holdsCategories F left && holdsCategories F right
 
 -- the bytes that the derived nature's arrays have at most
 abbrev pub arraysRoom : Family → Form → List ℕ → List ℕ → ℕ

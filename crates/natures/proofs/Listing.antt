@@ -1,21 +1,25 @@
 -- Category operands: which of 19 to 22 refuses, and the rule on whole categories where none does.
---     left-fails, right-fails, unequal-lists, bool-pair, no-rule, pair-ruled    of two operands
---     paired                                                                    which components have a rule on two
---     alone-fails, bool-alone, alone-ruled                                      of one
+--     both-code, code-is                                       19 to 21 in parts, as the code makes them
+--     fine, kinds, is-whole, categories, fine-listed, joint    operands that pass
+--     paired                                                   which components have a rule on two
+--     pair-fails, bool-pair, no-rule, pair-ruled               two operands that are combined
+--     union-fails, union-joins                                 two that are united
+--     alone-fails, bool-alone, alone-ruled                     one
 -- Assumes nothing.
 use mathlib.Core.Path.{_≡_, refl, sym, ap, ap₂, _∙_}
 use mathlib.Core.Bool.{Bool, true, false, cond, not}
-use mathlib.Core.List.{List, [], _∷_}
-use mathlib.Core.Logic.{_⊎_, ⊎-elim}
+use mathlib.Core.List.{List, [], _∷_, _++_}
+use mathlib.Core.Logic.{_⊎_, inl, inr, ⊎-elim}
 use mathlib.Core.Option.{Option, none, some}
 use Prim.Native.Nat.{ℕ, zero, suc, _≤_, _<_}
 use native.Mathlib.Omega.{arith}
 use lib.IntN.{ℤ}
 use lib.Dec.{eqb}
-use borrow.Author.Tests.{eqb-false, ne-eqb, eq-eqb}
-use Rattle.numbers.specs.Result.{Result, refused, check, checked, firstFailing}
+use borrow.Author.Tests.{eqb-true, eqb-false, ne-eqb, not-false}
+use Rattle.numbers.specs.Result.{Result, refused, check, firstFailing}
 use Rattle.numbers.specs.Kind.{eqZ}
-use Rattle.base.specs.Form.{Form, byteAt, natureAt, isRangeNature, listCount, floatListsNature}
+use Rattle.utilities.specs.Lists.{every}
+use Rattle.base.specs.Form.{Form, byteAt, natureAt, isRangeNature, listCount, wholeListsNature, floatListsNature}
 use Rattle.base.specs.Sheet.{Nature}
 use Rattle.base.specs.Decode.{asWhole, natureIn, lists}
 use Rattle.base.specs.Encode.{natureNumber, entryCount}
@@ -27,107 +31,98 @@ use Rattle.base.specs.declared.Family.the-variants as Fam
 use Rattle.base.proofs.Natures.{nature-whole-lists, nature-bool-lists}
 use Rattle.category_lists.specs.Categories.{categoryRule, ruled, ruleOf, combined, mapped, limited}
 use Rattle.category_lists.specs.Columnwise.{Listed}
-use Rattle.calls.specs.Natures.{ruleFor, wholeListsOf, isFloatLists, noLists, listsPair, listsAlone}
-use Rattle.natures.specs.Code.{Lists, Reached, isIntCopy, hasRule}
+use Rattle.orders.specs.Parts.{next, isIntCopy}
+use Rattle.orders.proofs.Refusals.{Numbered, first-append, checked-passes, checked-refuses}
+use Rattle.orders.proofs.Passing.{Passing, all-pass}
+use Rattle.calls.specs.Natures.{ruleFor, wholeListsOf, listChecks, bothListChecks, unitedNature, listsUnited, listsPair, listsAlone}
+use Rattle.natures.specs.Code.{Lists, Reached, hasRule}
 use Rattle.natures.proofs.Sorted.{yes-no, nature-within, number-of, count-of}
 
--- ---- 19 and 20
+-- ---- 19 to 21
 
-abbrev code : Bool → Bool → ℕ
-code a b = firstFailing (check 19 a ∷ check 20 b ∷ [])
+-- no check has the number 0
+list-numbered : (k : Nature) → Numbered (listChecks k)
+unfolding every
+list-numbered k = record { all = refl }
 
-codes-none : (a b : Bool) → code a b ≡ 0 → (a ≡ false) × (b ≡ false)
+both-numbered : (l r : Nature) → Numbered (bothListChecks l r)
+unfolding every
+both-numbered l r = record { all = refl }
+
+-- left's before right's, and then the kinds
+pub both-code : (l r : Nature)
+    → firstFailing (bothListChecks l r) ≡ next (firstFailing (listChecks l)) (next (firstFailing (listChecks r)) (cond (not (eqb (natureNumber l) (natureNumber r))) 21 0))
 unfolding firstFailing
-codes-none true b e = absurd (omega arith)
-codes-none false true e = absurd (omega arith)
-codes-none false false e = (refl, refl)
-
-module _ {X : Type 0} where
-  one-fails : (a b : Bool) (rest : Result X) {k : ℕ} → k ≡ code a b → (k ≡ 0 → ⊥) → checked (check 19 a ∷ check 20 b ∷ []) rest ≡ refused k
-  unfolding checked firstFailing
-  one-fails true b rest e h = ap refused (sym e)
-  one-fails false true rest e h = ap refused (sym e)
-  one-fails false false rest e h = absurd (h e)
-
-  one-passes : (a b : Bool) (rest : Result X) → code a b ≡ 0 → checked (check 19 a ∷ check 20 b ∷ []) rest ≡ rest
-  unfolding checked firstFailing
-  one-passes true b rest e = absurd (omega arith)
-  one-passes false true rest e = absurd (omega arith)
-  one-passes false false rest e = refl
-
-  abbrev both : Bool → Bool → Bool → Bool → Bool → Result X → Result X
-  both a b p q d rest = checked (check 19 a ∷ check 20 b ∷ check 19 p ∷ check 20 q ∷ check 21 d ∷ []) rest
-
-  first-fails : (a b p q d : Bool) (rest : Result X) {k : ℕ} → k ≡ code a b → (k ≡ 0 → ⊥) → both a b p q d rest ≡ refused k
-  unfolding checked firstFailing
-  first-fails true b p q d rest e h = ap refused (sym e)
-  first-fails false true p q d rest e h = ap refused (sym e)
-  first-fails false false p q d rest e h = absurd (h e)
-
-  second-fails : (a b p q d : Bool) (rest : Result X) {k : ℕ} → code a b ≡ 0 → k ≡ code p q → (k ≡ 0 → ⊥) → both a b p q d rest ≡ refused k
-  unfolding checked firstFailing
-  second-fails true b p q d rest f e h = absurd (omega arith)
-  second-fails false true p q d rest f e h = absurd (omega arith)
-  second-fails false false true q d rest f e h = ap refused (sym e)
-  second-fails false false false true d rest f e h = ap refused (sym e)
-  second-fails false false false false d rest f e h = absurd (h e)
-
-  both-pass : (a b p q d : Bool) (rest : Result X) → code a b ≡ 0 → code p q ≡ 0 → both a b p q d rest ≡ cond d (refused 21) rest
-  unfolding checked firstFailing
-  both-pass true b p q d rest f g = absurd (omega arith)
-  both-pass false true p q d rest f g = absurd (omega arith)
-  both-pass false false true q d rest f g = absurd (omega arith)
-  both-pass false false false true d rest f g = absurd (omega arith)
-  both-pass false false false false d rest f g = refl
+both-code l r =
+    let kinds = check 21 (not (eqb (natureNumber l) (natureNumber r))) ∷ [] in
+    first-append (listChecks l) (listChecks r ++ kinds) (list-numbered l) ∙ ap (next (firstFailing (listChecks l))) (first-append (listChecks r) kinds (list-numbered r))
 
 -- ---- an operand
 
 -- the code of an operand's nature byte and list count
 abbrev pub codeFrom : ℕ → ℕ → ℕ
-codeFrom nature n = code (eqb nature floatListsNature) (eqb n 0)
+codeFrom nature n = firstFailing (check 19 (eqb nature floatListsNature) ∷ check 20 (eqb n 0) ∷ [])
+
+pub code-is : {F : Form} {s : List ℕ} → Lists F s → {n k : ℕ} → n ≡ listCount F s → k ≡ codeFrom (byteAt F natureAt s) n → k ≡ firstFailing (listChecks (natureIn F s))
+code-is {F} {s} l e h = h ∙ ap₂ codeFrom (sym (number-of F s (l .read))) (e ∙ sym (count-of F s l))
 
 -- categories that 19 and 20 pass
 pub record Fine (F : Form) (s : List ℕ) : Type 0 where
   pub lists : Lists F s
-  pub codes : code (isFloatLists (natureIn F s)) (noLists (natureIn F s)) ≡ 0
+  pub codes : Passing (listChecks (natureIn F s))
 
-module _ {F : Form} {s : List ℕ} (l : Lists F s) {n k : ℕ} (e : n ≡ listCount F s) (h : k ≡ codeFrom (byteAt F natureAt s) n) where
-  code-is : k ≡ code (isFloatLists (natureIn F s)) (noLists (natureIn F s))
-  code-is = h ∙ ap₂ codeFrom (sym (number-of F s (l .read))) (e ∙ sym (count-of F s l))
-
-  pub fine : k ≡ 0 → Fine F s
-  fine z = record { lists = l; codes = sym code-is ∙ z }
+pub fine : {F : Form} {s : List ℕ} → Lists F s → firstFailing (listChecks (natureIn F s)) ≡ 0 → Fine F s
+fine {F} {s} l e = record { lists = l; codes = all-pass (listChecks (natureIn F s)) (list-numbered (natureIn F s)) e }
 
 module _ {F : Form} {s : List ℕ} (f : Fine F s) where
   no-float : byteAt F natureAt s ≡ 5 → ⊥
-  no-float e =
-      eqb-false (natureNumber (natureIn F s)) 5
-      (codes-none (isFloatLists (natureIn F s)) (noLists (natureIn F s)) (f .codes) .0)
-      (number-of F s (f .lists .read) ∙ e)
+  no-float e = eqb-false (natureNumber (natureIn F s)) 5 (f .codes .0) (number-of F s (f .lists .read) ∙ e)
 
-  -- neither bool nor float
-  pub is-whole : (byteAt F natureAt s ≡ 4 → ⊥) → byteAt F natureAt s ≡ 3
-  is-whole other =
-      go (byteAt F natureAt s) (nature-within F s (f .lists .read)) (f .lists .present) (f .lists .no-range) other no-float
+  -- whole or bool
+  pub kinds : (byteAt F natureAt s ≡ 3) ⊎ (byteAt F natureAt s ≡ 4)
+  kinds = go (byteAt F natureAt s) (nature-within F s (f .lists .read)) (f .lists .present) (f .lists .no-range) no-float
     where
-      go : (k : ℕ) → k ≤ 5 → eqb k 0 ≡ false → isRangeNature k ≡ false → (k ≡ 4 → ⊥) → (k ≡ 5 → ⊥) → k ≡ 3
-      go zero h p r x y = absurd (yes-no p)
-      go (suc zero) h p r x y = absurd (yes-no r)
-      go (suc (suc zero)) h p r x y = absurd (yes-no r)
-      go (suc (suc (suc zero))) h p r x y = refl
-      go (suc (suc (suc (suc zero)))) h p r x y = absurd (x refl)
-      go (suc (suc (suc (suc (suc zero))))) h p r x y = absurd (y refl)
-      go (suc (suc (suc (suc (suc (suc k)))))) h p r x y = absurd (omega arith)
+      go : (k : ℕ) → k ≤ 5 → eqb k 0 ≡ false → isRangeNature k ≡ false → (k ≡ 5 → ⊥) → (k ≡ 3) ⊎ (k ≡ 4)
+      go zero h p r x = absurd (yes-no p)
+      go (suc zero) h p r x = absurd (yes-no r)
+      go (suc (suc zero)) h p r x = absurd (yes-no r)
+      go (suc (suc (suc zero))) h p r x = inl refl
+      go (suc (suc (suc (suc zero)))) h p r x = inr refl
+      go (suc (suc (suc (suc (suc zero))))) h p r x = absurd (x refl)
+      go (suc (suc (suc (suc (suc (suc k)))))) h p r x = absurd (omega arith)
 
-  pub fine-listed : byteAt F natureAt s ≡ 3 → Listed F s
-  fine-listed e =
-      let some-list = codes-none (isFloatLists (natureIn F s)) (noLists (natureIn F s)) (f .codes) .1 in
-      let other = eqb-false (entryCount (natureIn F s)) 0 some-list in
+  pub is-whole : (byteAt F natureAt s ≡ 4 → ⊥) → byteAt F natureAt s ≡ 3
+  is-whole other = ⊎-elim (λ e. e) (λ e. absurd (other e)) kinds
+
+  pub categories : wholeListsNature ≤ byteAt F natureAt s
+  categories = ⊎-elim (λ e. omega (arith, e)) (λ e. omega (arith, e)) kinds
+
+  pub fine-listed : Listed F s
+  fine-listed =
+      let other = eqb-false (entryCount (natureIn F s)) 0 (f .codes .1 .0) in
       let same = count-of F s (f .lists) in
-      record { passed = f .lists .read .sizes; nature = e; some = go (listCount F s) (λ z. other (same ∙ z)) }
+      record { passed = f .lists .read .sizes; no-range = f .lists .no-range; some = go (listCount F s) (λ z. other (same ∙ z)) }
     where
       go : (n : ℕ) → (n ≡ 0 → ⊥) → 0 < n
       go n h = omega (arith, h)
+
+-- two operands that 19 to 21 pass
+pub record Joint (F : Form) (left right : List ℕ) : Type 0 where
+  pub left-fine : Fine F left
+  pub right-fine : Fine F right
+  pub same : byteAt F natureAt left ≡ byteAt F natureAt right
+
+pub joint : {F : Form} {left right : List ℕ} → Lists F left → Lists F right → firstFailing (bothListChecks (natureIn F left) (natureIn F right)) ≡ 0 → Joint F left right
+joint {F} {left} {right} x y e =
+    let l = natureIn F left in
+    let r = natureIn F right in
+    let p = all-pass (bothListChecks l r) (both-numbered l r) e in
+    let kinds = eqb-true (natureNumber l) (natureNumber r) (not-false (eqb (natureNumber l) (natureNumber r)) (p .1 .1 .1 .1 .0)) in
+    record {
+      left-fine = record { lists = x; codes = (p .0, (p .1 .0, tt)) };
+      right-fine = record { lists = y; codes = (p .1 .1 .0, (p .1 .1 .1 .0, tt)) };
+      same = sym (number-of F left (x .read)) ∙ kinds ∙ number-of F right (y .read);
+    }
 
 -- ---- the rules
 
@@ -142,101 +137,89 @@ rule-is C.Modulo type h = rw h
 rule-is C.Log type h = refl
 rule-is C.Power type h = rw h
 rule-is C.Negative type h = refl
+rule-is C.Pool type h = refl
 
 ruled-apart : (f : Family) (type : ℕ) → hasRule f ≡ true → isIntCopy f type ≡ false
 ruled-apart Fam.Unary type h = refl
 ruled-apart Fam.Pair type h = refl
 ruled-apart Fam.Copy type h = absurd (yes-no (sym h))
+ruled-apart Fam.Pool type h = refl
 
 -- of the components that read both operands, those of one family have such a rule
 pub paired : (f : Family) → isUnary f ≡ false → hasRule f ≡ true → f ≡ Fam.Pair
 paired Fam.Unary u h = absurd (yes-no u)
 paired Fam.Pair u h = refl
 paired Fam.Copy u h = absurd (yes-no (sym h))
+paired Fam.Pool u h = absurd (yes-no (sym h))
 
 rule-some : (c : Component) (type : ℕ) → hasRule (familyOf c) ≡ true → categoryRule c type ≡ some (ruleOf c)
 rule-some c type h = rule-is c type (ruled-apart (familyOf c) type h) ∙ ap (λ (t : Bool). cond t (some (ruleOf c)) none) h
 
 -- ---- two operands
 
+-- what 19 to 21 leave
+abbrev combining : ℕ → Component → ℕ → ℕ → Nature → Nature → Result Nature
+combining limit c type columns l r = ruled (ruleFor c type l) (λ rule. limited limit (combined eqZ rule columns (wholeListsOf l) (wholeListsOf r)))
+
+module _ (l r : Nature) where
+  pub pair-fails : {k : ℕ} → k ≡ firstFailing (bothListChecks l r) → (k ≡ 0 → ⊥) → (limit : ℕ) (c : Component) (type columns : ℕ) → listsPair limit c type columns l r ≡ refused k
+  unfolding listsPair
+  pair-fails {k} e h limit c type columns = checked-refuses (combining limit c type columns l r) (bothListChecks l r) (sym e) (ne-eqb k 0 h)
+
+  pub union-fails : {k : ℕ} → k ≡ firstFailing (bothListChecks l r) → (k ≡ 0 → ⊥) → (columns : ℕ) → listsUnited columns l r ≡ refused k
+  unfolding listsUnited
+  union-fails {k} e h columns = checked-refuses (unitedNature columns l r) (bothListChecks l r) (sym e) (ne-eqb k 0 h)
+
+  module _ (e : firstFailing (bothListChecks l r) ≡ 0) where
+    pair-joins : (limit : ℕ) (c : Component) (type columns : ℕ) → listsPair limit c type columns l r ≡ combining limit c type columns l r
+    unfolding listsPair
+    pair-joins limit c type columns = checked-passes (combining limit c type columns l r) (bothListChecks l r) (both-numbered l r) e
+
+    pub union-joins : (columns : ℕ) → listsUnited columns l r ≡ unitedNature columns l r
+    unfolding listsUnited
+    union-joins columns = checked-passes (unitedNature columns l r) (bothListChecks l r) (both-numbered l r) e
+
 module _ (limit : ℕ) (c : Component) (type columns : ℕ) where
-  -- what 19 to 21 leave
-  abbrev combining : Nature → Nature → Result Nature
-  combining l r = ruled (ruleFor c type l) (λ rule. limited limit (combined eqZ rule columns (wholeListsOf l) (wholeListsOf r)))
+  module _ (F : Form) (left right : List ℕ) (z : firstFailing (bothListChecks (natureIn F left) (natureIn F right)) ≡ 0) where
+    abbrev pair : Result Nature
+    pair = listsPair limit c type columns (natureIn F left) (natureIn F right)
+
+    pub bool-pair : byteAt F natureAt left ≡ 4 → pair ≡ refused 22
+    bool-pair e = pair-joins (natureIn F left) (natureIn F right) z limit c type columns ∙ ap (λ (k : Nature). combining limit c type columns k (natureIn F right)) (nature-bool-lists F left e)
+
+    module _ (a : Joint F left right) (e : byteAt F natureAt left ≡ 3) where
+      abbrev paired-by : Option (ℤ → ℤ → Result ℤ) → Result Nature
+      paired-by o = ruled o (λ rule. limited limit (combined eqZ rule columns (lists F left asWhole) (lists F right asWhole)))
+
+      whole-pair : pair ≡ paired-by (categoryRule c type)
+      whole-pair =
+          pair-joins (natureIn F left) (natureIn F right) z limit c type columns
+          ∙ ap₂ (λ (x y : Nature). combining limit c type columns x y) (nature-whole-lists F left e) (nature-whole-lists F right (sym (a .same) ∙ e))
+
+      pub no-rule : Reached F c type right → hasRule (familyOf c) ≡ false → pair ≡ refused 22
+      no-rule reached n =
+          ⊎-elim
+          (λ h. whole-pair ∙ ap (λ (o : Option (ℤ → ℤ → Result ℤ)). paired-by o) (rule-is c type h ∙ ap (λ (t : Bool). cond t (some (ruleOf c)) none) n))
+          (λ h. absurd (yes-no (sym h ∙ a .right-fine .lists .no-range)))
+          reached
+
+      pub pair-ruled : hasRule (familyOf c) ≡ true → pair ≡ limited limit (combined eqZ (ruleOf c) columns (lists F left asWhole) (lists F right asWhole))
+      pair-ruled h = whole-pair ∙ ap (λ (o : Option (ℤ → ℤ → Result ℤ)). paired-by o) (rule-some c type h)
+
+  -- ---- one operand
 
   abbrev mapping : Nature → Result Nature
   mapping l = ruled (ruleFor c type l) (λ rule. limited limit (mapped eqZ rule columns (wholeListsOf l)))
 
-  module _ (F : Form) (left right : List ℕ) where
-    abbrev l : Nature
-    l = natureIn F left
-
-    abbrev r : Nature
-    r = natureIn F right
-
-    abbrev differ : Bool
-    differ = not (eqb (natureNumber l) (natureNumber r))
-
-    pub left-fails : Lists F left → {n k : ℕ} → n ≡ listCount F left → k ≡ codeFrom (byteAt F natureAt left) n → (k ≡ 0 → ⊥) → listsPair limit c type columns l r ≡ refused k
-    unfolding listsPair
-    left-fails x e h z = first-fails (isFloatLists l) (noLists l) (isFloatLists r) (noLists r) differ (combining l r) (code-is x e h) z
-
-    pub right-fails : Fine F left → Lists F right → {n k : ℕ} → n ≡ listCount F right → k ≡ codeFrom (byteAt F natureAt right) n → (k ≡ 0 → ⊥) → listsPair limit c type columns l r ≡ refused k
-    unfolding listsPair
-    right-fails f y e h z = second-fails (isFloatLists l) (noLists l) (isFloatLists r) (noLists r) differ (combining l r) (f .codes) (code-is y e h) z
-
-    module _ (f : Fine F left) (g : Fine F right) where
-      opened : listsPair limit c type columns l r ≡ cond differ (refused 21) (combining l r)
-      unfolding listsPair
-      opened = both-pass (isFloatLists l) (noLists l) (isFloatLists r) (noLists r) differ (combining l r) (f .codes) (g .codes)
-
-      pub unequal-lists : (byteAt F natureAt left ≡ byteAt F natureAt right → ⊥) → listsPair limit c type columns l r ≡ refused 21
-      unequal-lists d =
-          let x = number-of F left (f .lists .read) in
-          let y = number-of F right (g .lists .read) in
-          opened ∙ ap (λ (b : Bool). cond (not b) (refused 21) (combining l r)) (ne-eqb (natureNumber l) (natureNumber r) (λ e. d (sym x ∙ e ∙ y)))
-
-      equal-lists : byteAt F natureAt left ≡ byteAt F natureAt right → listsPair limit c type columns l r ≡ combining l r
-      equal-lists d =
-          let x = number-of F left (f .lists .read) in
-          let y = number-of F right (g .lists .read) in
-          opened ∙ ap (λ (b : Bool). cond (not b) (refused 21) (combining l r)) (eq-eqb (natureNumber l) (natureNumber r) (x ∙ d ∙ sym y))
-
-      pub bool-pair : byteAt F natureAt left ≡ byteAt F natureAt right → byteAt F natureAt left ≡ 4 → listsPair limit c type columns l r ≡ refused 22
-      bool-pair d e = equal-lists d ∙ ap (λ (k : Nature). combining k r) (nature-bool-lists F left e)
-
-      module _ (d : byteAt F natureAt left ≡ byteAt F natureAt right) (e : byteAt F natureAt left ≡ 3) where
-        whole-pair : listsPair limit c type columns l r
-            ≡ ruled (categoryRule c type) (λ rule. limited limit (combined eqZ rule columns (lists F left asWhole) (lists F right asWhole)))
-        whole-pair =
-            equal-lists d
-            ∙ ap₂ (λ (x y : Nature). combining x y) (nature-whole-lists F left e) (nature-whole-lists F right (sym d ∙ e))
-
-        pub no-rule : Reached F c type right → hasRule (familyOf c) ≡ false → listsPair limit c type columns l r ≡ refused 22
-        no-rule reached n =
-            ⊎-elim
-            (λ h.
-            whole-pair
-            ∙ ap (λ (o : Option (ℤ → ℤ → Result ℤ)). ruled o (λ rule. limited limit (combined eqZ rule columns (lists F left asWhole) (lists F right asWhole)))) (rule-is c type h ∙ ap (λ (t : Bool). cond t (some (ruleOf c)) none) n))
-            (λ h. absurd (yes-no (sym h ∙ g .lists .no-range)))
-            reached
-
-        pub pair-ruled : hasRule (familyOf c) ≡ true → listsPair limit c type columns l r ≡ limited limit (combined eqZ (ruleOf c) columns (lists F left asWhole) (lists F right asWhole))
-        pair-ruled h =
-            whole-pair
-            ∙ ap (λ (o : Option (ℤ → ℤ → Result ℤ)). ruled o (λ rule. limited limit (combined eqZ rule columns (lists F left asWhole) (lists F right asWhole)))) (rule-some c type h)
-
-  -- ---- one operand
-
-  module _ {F : Form} {s : List ℕ} where
-    pub alone-fails : Lists F s → {n k : ℕ} → n ≡ listCount F s → k ≡ codeFrom (byteAt F natureAt s) n → (k ≡ 0 → ⊥) → listsAlone limit c type columns (natureIn F s) ≡ refused k
+  module _ (F : Form) (s : List ℕ) where
+    pub alone-fails : {k : ℕ} → k ≡ firstFailing (listChecks (natureIn F s)) → (k ≡ 0 → ⊥) → listsAlone limit c type columns (natureIn F s) ≡ refused k
     unfolding listsAlone
-    alone-fails x e h z = one-fails (isFloatLists (natureIn F s)) (noLists (natureIn F s)) (mapping (natureIn F s)) (code-is x e h) z
+    alone-fails {k} e h = checked-refuses (mapping (natureIn F s)) (listChecks (natureIn F s)) (sym e) (ne-eqb k 0 h)
 
-    module _ (f : Fine F s) where
+    module _ (z : firstFailing (listChecks (natureIn F s)) ≡ 0) where
       alone-opened : listsAlone limit c type columns (natureIn F s) ≡ mapping (natureIn F s)
       unfolding listsAlone
-      alone-opened = one-passes (isFloatLists (natureIn F s)) (noLists (natureIn F s)) (mapping (natureIn F s)) (f .codes)
+      alone-opened = checked-passes (mapping (natureIn F s)) (listChecks (natureIn F s)) (list-numbered (natureIn F s)) z
 
       pub bool-alone : byteAt F natureAt s ≡ 4 → listsAlone limit c type columns (natureIn F s) ≡ refused 22
       bool-alone e = alone-opened ∙ ap (λ (k : Nature). mapping k) (nature-bool-lists F s e)

@@ -12,7 +12,7 @@ use lib.IntN.{ℤ}
 use lib.Ieee.{Float}
 use lib.Dec.{T, eqb, leb}
 use borrow.Author.Tests.{leb-true, eqb-true}
-use Rattle.numbers.specs.Result.{ok, refused}
+use Rattle.numbers.specs.Result.{Result, ok, refused}
 use Rattle.numbers.specs.Kind.{Span, whole, float}
 use Rattle.base.specs.Form.{Form, byteAt, natureAt, typeAt, nullityAt, releasableAt, notEmptyAt, orderedAt, reservedAt, reservedCount, lastNature, lastType, isRangeNature, listCount}
 use Rattle.base.specs.Sheet.{Nature, absent, wholeRange, floatRange, wholeLists, boolLists, floatLists}
@@ -29,7 +29,7 @@ use Rattle.ends.specs.Ends.{endRule}
 use Rattle.ends.specs.Ranges.{wholeRule, rangeNature}
 use Rattle.ranges.proofs.Alone.{alone-is}
 use Rattle.category_lists.proofs.Operands.{lists-length}
-use Rattle.calls.specs.Natures.{listsPair, listsAlone, wholeRangeWith, floatRangeWith, listsWith, binaryNature, unaryNature}
+use Rattle.calls.specs.Natures.{listsAlone, wholeRangeWith, floatRangeWith, listsWith, twoNatures, unaryNature}
 use Rattle.lending.specs.Code.{Read}
 use Rattle.natures.specs.Code.{Lists, hasRule}
 
@@ -101,13 +101,13 @@ is-absent (wholeLists ls) e = absurd (omega arith)
 is-absent (boolLists ls) e = absurd (omega arith)
 is-absent (floatLists ls) e = absurd (omega arith)
 
-module _ (limit : ℕ) (c : Component) (type columns : ℕ) where
-  pub absent-left : (l r : Nature) → natureNumber l ≡ 0 → binaryNature limit c type columns l r ≡ ok absent
-  unfolding binaryNature
-  absent-left l r e = ap (λ (k : Nature). binaryNature limit c type columns k r) (is-absent l e)
+module _ (c : Component) (type columns : ℕ) (together : Nature → Nature → Result Nature) where
+  pub absent-left : (l r : Nature) → natureNumber l ≡ 0 → twoNatures c type columns together l r ≡ ok absent
+  unfolding twoNatures
+  absent-left l r e = ap (λ (k : Nature). twoNatures c type columns together k r) (is-absent l e)
 
-  with-absent : (l : Nature) → binaryNature limit c type columns l absent ≡ ok absent
-  unfolding binaryNature wholeRangeWith floatRangeWith listsWith
+  with-absent : (l : Nature) → twoNatures c type columns together l absent ≡ ok absent
+  unfolding twoNatures wholeRangeWith floatRangeWith listsWith
   with-absent absent = refl
   with-absent (wholeRange rs) = refl
   with-absent (floatRange rs) = refl
@@ -115,11 +115,11 @@ module _ (limit : ℕ) (c : Component) (type columns : ℕ) where
   with-absent (boolLists ls) = refl
   with-absent (floatLists ls) = refl
 
-  pub absent-right : (l r : Nature) → natureNumber r ≡ 0 → binaryNature limit c type columns l r ≡ ok absent
-  absent-right l r e = ap (λ (k : Nature). binaryNature limit c type columns l k) (is-absent r e) ∙ with-absent l
+  pub absent-right : (l r : Nature) → natureNumber r ≡ 0 → twoNatures c type columns together l r ≡ ok absent
+  absent-right l r e = ap (λ (k : Nature). twoNatures c type columns together l k) (is-absent r e) ∙ with-absent l
 
   -- a range with what is no range
-  whole-without : (xs : List (Span ℤ)) (r : Nature) → isRangeNature (natureNumber r) ≡ false → wholeRangeWith limit c type columns xs r ≡ ok absent
+  whole-without : (xs : List (Span ℤ)) (r : Nature) → isRangeNature (natureNumber r) ≡ false → wholeRangeWith c type columns together xs r ≡ ok absent
   unfolding wholeRangeWith
   whole-without xs absent e = refl
   whole-without xs (wholeRange rs) e = absurd (yes-no e)
@@ -128,7 +128,7 @@ module _ (limit : ℕ) (c : Component) (type columns : ℕ) where
   whole-without xs (boolLists ls) e = refl
   whole-without xs (floatLists ls) e = refl
 
-  float-without : (xs : List (Span Float)) (r : Nature) → isRangeNature (natureNumber r) ≡ false → floatRangeWith limit c type columns xs r ≡ ok absent
+  float-without : (xs : List (Span Float)) (r : Nature) → isRangeNature (natureNumber r) ≡ false → floatRangeWith c type columns together xs r ≡ ok absent
   unfolding floatRangeWith
   float-without xs absent e = refl
   float-without xs (wholeRange rs) e = absurd (yes-no e)
@@ -137,8 +137,8 @@ module _ (limit : ℕ) (c : Component) (type columns : ℕ) where
   float-without xs (boolLists ls) e = refl
   float-without xs (floatLists ls) e = refl
 
-  pub range-with-lists : (l r : Nature) → isRangeNature (natureNumber l) ≡ true → isRangeNature (natureNumber r) ≡ false → binaryNature limit c type columns l r ≡ ok absent
-  unfolding binaryNature
+  pub range-with-lists : (l r : Nature) → isRangeNature (natureNumber l) ≡ true → isRangeNature (natureNumber r) ≡ false → twoNatures c type columns together l r ≡ ok absent
+  unfolding twoNatures
   range-with-lists absent r y n = refl
   range-with-lists (wholeRange xs) r y n = whole-without xs r n
   range-with-lists (floatRange xs) r y n = float-without xs r n
@@ -147,7 +147,7 @@ module _ (limit : ℕ) (c : Component) (type columns : ℕ) where
   range-with-lists (floatLists ls) r y n = absurd (yes-no (sym y))
 
   -- lists with a range, and with lists
-  lists-ranged : (l r : Nature) → isRangeNature (natureNumber r) ≡ true → listsWith limit c type columns l r ≡ ok absent
+  lists-ranged : (l r : Nature) → isRangeNature (natureNumber r) ≡ true → listsWith c type columns together l r ≡ ok absent
   unfolding listsWith
   lists-ranged l absent e = refl
   lists-ranged l (wholeRange rs) e = refl
@@ -156,8 +156,8 @@ module _ (limit : ℕ) (c : Component) (type columns : ℕ) where
   lists-ranged l (boolLists ls) e = absurd (yes-no (sym e))
   lists-ranged l (floatLists ls) e = absurd (yes-no (sym e))
 
-  pub lists-with-range : (l r : Nature) → isRangeNature (natureNumber l) ≡ false → isRangeNature (natureNumber r) ≡ true → binaryNature limit c type columns l r ≡ ok absent
-  unfolding binaryNature
+  pub lists-with-range : (l r : Nature) → isRangeNature (natureNumber l) ≡ false → isRangeNature (natureNumber r) ≡ true → twoNatures c type columns together l r ≡ ok absent
+  unfolding twoNatures
   lists-with-range absent r n y = refl
   lists-with-range (wholeRange xs) r n y = absurd (yes-no n)
   lists-with-range (floatRange xs) r n y = absurd (yes-no n)
@@ -165,7 +165,7 @@ module _ (limit : ℕ) (c : Component) (type columns : ℕ) where
   lists-with-range (boolLists ls) r n y = lists-ranged (boolLists ls) r y
   lists-with-range (floatLists ls) r n y = lists-ranged (floatLists ls) r y
 
-  lists-listed : (l r : Nature) → (natureNumber r ≡ 0 → ⊥) → isRangeNature (natureNumber r) ≡ false → listsWith limit c type columns l r ≡ listsPair limit c type columns l r
+  lists-listed : (l r : Nature) → (natureNumber r ≡ 0 → ⊥) → isRangeNature (natureNumber r) ≡ false → listsWith c type columns together l r ≡ together l r
   unfolding listsWith
   lists-listed l absent p n = absurd (p refl)
   lists-listed l (wholeRange rs) p n = absurd (yes-no n)
@@ -175,8 +175,8 @@ module _ (limit : ℕ) (c : Component) (type columns : ℕ) where
   lists-listed l (floatLists ls) p n = refl
 
   pub both-lists : (l r : Nature) → (natureNumber l ≡ 0 → ⊥) → isRangeNature (natureNumber l) ≡ false → (natureNumber r ≡ 0 → ⊥) → isRangeNature (natureNumber r) ≡ false
-      → binaryNature limit c type columns l r ≡ listsPair limit c type columns l r
-  unfolding binaryNature
+      → twoNatures c type columns together l r ≡ together l r
+  unfolding twoNatures
   both-lists absent r p n q m = absurd (p refl)
   both-lists (wholeRange xs) r p n q m = absurd (yes-no n)
   both-lists (floatRange xs) r p n q m = absurd (yes-no n)
@@ -185,7 +185,7 @@ module _ (limit : ℕ) (c : Component) (type columns : ℕ) where
   both-lists (floatLists ls) r p n q m = lists-listed (floatLists ls) r q m
 
   -- one range whole, the other float
-  whole-other : (xs : List (Span ℤ)) (r : Nature) → isRangeNature (natureNumber r) ≡ true → (1 ≡ natureNumber r → ⊥) → wholeRangeWith limit c type columns xs r ≡ refused 17
+  whole-other : (xs : List (Span ℤ)) (r : Nature) → isRangeNature (natureNumber r) ≡ true → (1 ≡ natureNumber r → ⊥) → wholeRangeWith c type columns together xs r ≡ refused 17
   unfolding wholeRangeWith
   whole-other xs absent y d = absurd (yes-no (sym y))
   whole-other xs (wholeRange rs) y d = absurd (d refl)
@@ -194,7 +194,7 @@ module _ (limit : ℕ) (c : Component) (type columns : ℕ) where
   whole-other xs (boolLists ls) y d = absurd (yes-no (sym y))
   whole-other xs (floatLists ls) y d = absurd (yes-no (sym y))
 
-  float-other : (xs : List (Span Float)) (r : Nature) → isRangeNature (natureNumber r) ≡ true → (2 ≡ natureNumber r → ⊥) → floatRangeWith limit c type columns xs r ≡ refused 17
+  float-other : (xs : List (Span Float)) (r : Nature) → isRangeNature (natureNumber r) ≡ true → (2 ≡ natureNumber r → ⊥) → floatRangeWith c type columns together xs r ≡ refused 17
   unfolding floatRangeWith
   float-other xs absent y d = absurd (yes-no (sym y))
   float-other xs (wholeRange rs) y d = refl
@@ -204,8 +204,8 @@ module _ (limit : ℕ) (c : Component) (type columns : ℕ) where
   float-other xs (floatLists ls) y d = absurd (yes-no (sym y))
 
   pub unequal-ranges : (l r : Nature) → isRangeNature (natureNumber l) ≡ true → isRangeNature (natureNumber r) ≡ true → (natureNumber l ≡ natureNumber r → ⊥)
-      → binaryNature limit c type columns l r ≡ refused 17
-  unfolding binaryNature
+      → twoNatures c type columns together l r ≡ refused 17
+  unfolding twoNatures
   unequal-ranges absent r x y d = absurd (yes-no (sym x))
   unequal-ranges (wholeRange xs) r x y d = whole-other xs r y d
   unequal-ranges (floatRange xs) r x y d = float-other xs r y d
@@ -216,29 +216,30 @@ module _ (limit : ℕ) (c : Component) (type columns : ℕ) where
   -- two ranges of one kind, of two sheets
   module _ (F : Form) (left right : List ℕ) where
     both-whole : byteAt F natureAt left ≡ 1 → byteAt F natureAt right ≡ 1
-        → binaryNature limit c type columns (natureIn F left) (natureIn F right) ≡ rangeNature F false c type columns left right
-    unfolding binaryNature wholeRangeWith rangeNature
+        → twoNatures c type columns together (natureIn F left) (natureIn F right) ≡ rangeNature F false c type columns left right
+    unfolding twoNatures wholeRangeWith rangeNature
     both-whole e h = rw (nature-whole-range F left e, nature-whole-range F right h)
 
     both-float : byteAt F natureAt left ≡ 2 → byteAt F natureAt right ≡ 2
-        → binaryNature limit c type columns (natureIn F left) (natureIn F right) ≡ rangeNature F true c type columns left right
-    unfolding binaryNature floatRangeWith rangeNature
+        → twoNatures c type columns together (natureIn F left) (natureIn F right) ≡ rangeNature F true c type columns left right
+    unfolding twoNatures floatRangeWith rangeNature
     both-float e h = rw (nature-float-range F left e, nature-float-range F right h)
 
     pub both-ranges : isRangeNature (byteAt F natureAt left) ≡ true → byteAt F natureAt left ≡ byteAt F natureAt right
-        → binaryNature limit c type columns (natureIn F left) (natureIn F right)
+        → twoNatures c type columns together (natureIn F left) (natureIn F right)
         ≡ rangeNature F (eqb (byteAt F natureAt left) 2) c type columns left right
     both-ranges y same = go (eqb k 2) refl
       where
         k : ℕ
         k = byteAt F natureAt left
 
-        go : (b : Bool) → eqb k 2 ≡ b → binaryNature limit c type columns (natureIn F left) (natureIn F right) ≡ rangeNature F b c type columns left right
+        go : (b : Bool) → eqb k 2 ≡ b → twoNatures c type columns together (natureIn F left) (natureIn F right) ≡ rangeNature F b c type columns left right
         go true e = let two = eqb-true k 2 e in both-float two (sym same ∙ two)
         go false e = let one = range-whole k y e in both-whole one (sym same ∙ one)
 
-  -- ---- one nature
+-- ---- one nature
 
+module _ (limit : ℕ) (c : Component) (type columns : ℕ) where
   pub alone-absent : (k : Nature) → natureNumber k ≡ 0 → unaryNature limit c type columns k ≡ ok absent
   unfolding unaryNature
   alone-absent k e = ap (unaryNature limit c type columns) (is-absent k e)
@@ -264,6 +265,7 @@ ruled-whole C.Modulo type h = absurd (yes-no (sym h))
 ruled-whole C.Log type h = absurd (yes-no (sym h))
 ruled-whole C.Power type h = absurd (yes-no (sym h))
 ruled-whole C.Negative type h = refl
+ruled-whole C.Pool type h = absurd (yes-no (sym h))
 
 module _ (limit : ℕ) (c : Component) (type columns : ℕ) (has : hasRule (familyOf c) ≡ true) (F : Form) (s : List ℕ) where
   alone-whole : byteAt F natureAt s ≡ 1 → unaryNature limit c type columns (natureIn F s) ≡ rangeNature F false c type columns s s

@@ -5,18 +5,13 @@ use mathlib.Core.List.{List}
 use mathlib.Core.Logic.{_⊎_}
 use Prim.Native.Nat.{ℕ}
 use lib.Dec.{eqb}
-use Rattle.base.specs.Form.{Form, byteAt, natureAt, absentNature, isRangeNature, intType}
+use Rattle.base.specs.Form.{Form, byteAt, natureAt, absentNature, isRangeNature}
 use Rattle.base.specs.Components.{familyOf}
 use Rattle.base.specs.declared.Component.{Component}
 use Rattle.base.specs.declared.Family.{Family}
 use Rattle.base.specs.declared.Family.the-variants as Fam
+use Rattle.orders.specs.Parts.{isIntCopy}
 use Rattle.lending.specs.Code.{Read}
-
--- Modulo, Log and Power of type Int: the rules for categories that Modulo and Power have are on this type
-abbrev pub isIntCopy : Family → ℕ → Bool
-isIntCopy Fam.Unary type = false
-isIntCopy Fam.Pair type = false
-isIntCopy Fam.Copy type = eqb type intType
 
 -- 15 has kept category pairs from these
 abbrev pub Reached : Form → Component → ℕ → List ℕ → Type 0
@@ -33,3 +28,4 @@ abbrev pub hasRule : Family → Bool
 hasRule Fam.Unary = true
 hasRule Fam.Pair = true
 hasRule Fam.Copy = false
+hasRule Fam.Pool = false

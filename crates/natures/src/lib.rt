@@ -18,7 +18,7 @@ ghost use Rattle.base.specs.Components.{familyOf, isUnary};
 ghost use Rattle.base.specs.declared.Family.the-variants as Fam;
 ghost use Rattle.base.specs.Decode.{natureIn};
 ghost use Rattle.writer.specs.Written.{inWriting, derivedIn, Within};
-ghost use Rattle.calls.specs.Natures.{listsPair, listsAlone, unaryNature, binaryNature};
+ghost use Rattle.calls.specs.Natures.{bothListChecks, listsPair, listsAlone, unaryNature, binaryNature};
 ghost use Rattle.lending.specs.Code.{Read, Ready, Lent, arraysRoom};
 ghost use Rattle.natures.specs.Code.{Reached, Lists, hasRule};
 
@@ -57,7 +57,31 @@ fn has_rule(c: Component) -> bool
         Family::Unary => true,
         Family::Pair => true,
         Family::Copy => false,
+        Family::Pool => false,
     }
+}
+
+// 19 to 21 of two category operands, left's before right's.
+pub fn both_lists_code(f: Form, left: &[u8], right: &[u8]) -> u32
+    requires { ⌜ Lists (formOf f) (now left) × Lists (formOf f) (now right) ⌝ }
+    ensures { λ r. ⌜ r ≡ firstFailing (bothListChecks (natureIn (formOf f) (now (left .entry))) (natureIn (formOf f) (now (right .entry)))) ⌝ }
+{
+    let x = base::nature_of(f, left);
+    let y = base::nature_of(f, right);
+    let l = base::sizes_at(f, left);
+    let k = lists_code(x, l.lists);
+    if k != 0 {
+        return k;
+    }
+    let r = base::sizes_at(f, right);
+    let m = lists_code(y, r.lists);
+    if m != 0 {
+        return m;
+    }
+    if x != y {
+        return refusals::CATEGORY_KINDS;
+    }
+    0
 }
 
 // Two category operands: 19 to 22, then the product.
@@ -79,22 +103,11 @@ fn propagate_binary_categorical_nature(
     requires { ⌜ Lent (familyOf c) (formOf f) (now left) (now right) (now us) (now bs) (now store) (now hints) (now first) (now second) ⌝ }
     ensures { λ r. ⌜ (derivedIn r (now (first .exit)) (now (second .exit)) ≡ inWriting (formOf f) (listsPair (formOf f .categoryLimit) c data_type columns (natureIn (formOf f) (now (left .entry))) (natureIn (formOf f) (now (right .entry))))) × Within (formOf f) (arraysRoom (familyOf c) (formOf f) (now (left .entry)) (now (right .entry))) (now (first .exit)) (now (second .exit)) r ⌝ }
 {
-    let x = base::nature_of(f, left);
-    let y = base::nature_of(f, right);
-    let l = base::sizes_at(f, left);
-    let k = lists_code(x, l.lists);
+    let k = both_lists_code(f, left, right);
     if k != 0 {
         return Derived::Refused(k);
     }
-    let r = base::sizes_at(f, right);
-    let m = lists_code(y, r.lists);
-    if m != 0 {
-        return Derived::Refused(m);
-    }
-    if x != y {
-        return Derived::Refused(refusals::CATEGORY_KINDS);
-    }
-    if x == form::BOOL_LISTS {
+    if base::nature_of(f, left) == form::BOOL_LISTS {
         return Derived::Refused(refusals::NO_RULE);
     }
     if !has_rule(c) {

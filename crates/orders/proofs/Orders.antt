@@ -14,7 +14,7 @@ use Rattle.base.specs.declared.Head.{Head}
 use Rattle.base.specs.declared.Component.{Component}
 use Rattle.base.specs.declared.Component.the-variants as C
 use Rattle.shape.specs.Shape.{bothPrivate, sameGroups, columnsAbsent}
-use Rattle.orders.specs.Orders.{operandChecks, unaryChecks, groupsClash, shapeChecks, pairChecks, boundChecks, copyChecks, lastChecks}
+use Rattle.orders.specs.Orders.{operandChecks, unaryChecks, groupsClash, shapeChecks, pairChecks, stackChecks, poolChecks, boundChecks, copyChecks, lastChecks}
 use Rattle.orders.specs.Parts.{Operand, first, next, operandsCode, only}
 use Rattle.orders.proofs.Refusals.{Numbered, next-nothing, first-append}
 
@@ -42,6 +42,10 @@ module _ (l r : Sheet) where
   unfolding every
   pair-numbered = record { all = refl }
 
+  pub pool-numbered : Numbered (poolChecks l r)
+  unfolding every
+  pool-numbered = record { all = refl }
+
   pub last-numbered : Numbered (lastChecks l r)
   unfolding every
   last-numbered = record { all = refl }
@@ -58,6 +62,7 @@ module _ (l r : Sheet) where
   bounds-every p x y z C.Log = rw (x, y, z)
   bounds-every p x y z C.Power = rw (x, y, z)
   bounds-every p x y z C.Negative = refl
+  bounds-every p x y z C.Pool = refl
 
   bounds-numbered : (c : Component) → Numbered (boundChecks c l r)
   bounds-numbered c = record { all = bounds-every (λ k. not (eqb k 0)) refl refl refl c }
@@ -93,16 +98,34 @@ module _ {F : Form} {s t : List ℕ} {a b : Head} (p : Operand F s a) (q : Opera
 
   -- k is what 6 and 7 say
   module _ {k : ℕ} (e : k ≡ operandsCode (headFields a) (headFields b) 0) where
+    -- 8 of the operands' groups, in front of checks that read the fields alone
+    clash-first :
+        (rest : Sheet → Sheet → List Check)
+        → firstFailing (rest (only (headFields a)) (only (headFields b))) ≡ firstFailing (rest (decode F s) (decode F t))
+        → next k
+        (first 8 (bothPrivate (headFields a) (headFields b) && not (sameGroups (groupsIn F s) (groupsIn F t))) (firstFailing (rest (only (headFields a)) (only (headFields b)))))
+        ≡ firstFailing (operandChecks (decode F s .fields) ++ operandChecks (decode F t .fields) ++ (check 8 (groupsClash (decode F s) (decode F t)) ∷ rest (decode F s) (decode F t)))
+    unfolding firstFailing decode
+    clash-first rest same =
+        let l = decode F s in
+        let r = decode F t in
+        rw (e, same, ← p .head, ← q .head) (rw (← p .head, ← q .head) at (operands-first (l .fields) (r .fields) (check 8 (groupsClash l r) ∷ rest l r)))
+
     pub pair-is :
         next k
         (first 8 (bothPrivate (headFields a) (headFields b) && not (sameGroups (groupsIn F s) (groupsIn F t)))
         (firstFailing (shapeChecks (only (headFields a)) (only (headFields b)))))
         ≡ firstFailing (pairChecks (decode F s) (decode F t))
     unfolding firstFailing decode
-    pair-is =
-        let l = decode F s in
-        let r = decode F t in
-        rw (e, ← p .head, ← q .head) (rw (← p .head, ← q .head) at (operands-first (l .fields) (r .fields) (check 8 (groupsClash l r) ∷ shapeChecks l r)))
+    pair-is = clash-first shapeChecks (rw (← p .head, ← q .head))
+
+    pub pool-is :
+        next k
+        (first 8 (bothPrivate (headFields a) (headFields b) && not (sameGroups (groupsIn F s) (groupsIn F t)))
+        (firstFailing (stackChecks (only (headFields a)) (only (headFields b)))))
+        ≡ firstFailing (poolChecks (decode F s) (decode F t))
+    unfolding firstFailing decode
+    pool-is = clash-first stackChecks (rw (← p .head, ← q .head))
 
     -- and m what 14 to 16 say
     pub copy-is :

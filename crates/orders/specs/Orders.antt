@@ -13,7 +13,7 @@ use Rattle.base.specs.Sheet.{Fields, Sheet, isWholeRange}
 use Rattle.base.specs.Bounds.{lowersPresent, uppersPresent, wholeLowersPresent, lowersPositive, lowersNonNegative, allSuitAsBase}
 use Rattle.base.specs.declared.Component.{Component}
 use Rattle.base.specs.declared.Component.the-variants as C
-use Rattle.shape.specs.Shape.{bothPrivate, sameGroups, sameDataset, columnsAbsent, columnsClash, rowsClash}
+use Rattle.shape.specs.Shape.{bothPrivate, sameGroups, sameDataset, columnsAbsent, columnsClash, columnsUnequal, rowsClash}
 
 -- 6: "An operand that isn't releasable has an aggregator"
 abbrev pub aggregated : Fields → Bool
@@ -61,6 +61,21 @@ module _ (l r : Sheet) where
       operandChecks (l .fields)
       ++ operandChecks (r .fields)
       ++ (check 8 groupsClash ∷ shapeChecks)
+
+  -- 11 to 14 of Pool, which read the fields alone. 02, S-1: "11, 12 (here unequal counts always), 14 (unequal types)"
+  abbrev pub stackChecks : List Check
+  stackChecks =
+      check 11 (columnsAbsent (l .fields) || columnsAbsent (r .fields))
+      ∷ check 12 (columnsUnequal (l .fields) (r .fields))
+      ∷ check 14 (not (eqb (l .fields .dataType) (r .fields .dataType)))
+      ∷ []
+
+  -- 02, S-1: "It checks 6, 7, 8, 11, 12 .., 14 .., then 17 to 21, 24, 26"
+  abbrev pub poolChecks : List Check
+  poolChecks =
+      operandChecks (l .fields)
+      ++ operandChecks (r .fields)
+      ++ (check 8 groupsClash ∷ stackChecks)
 
   abbrev pub bothOf : ℕ → Bool
   bothOf type = eqb (l .fields .dataType) type && eqb (r .fields .dataType) type
@@ -111,6 +126,7 @@ boundChecks C.Modulo l r = moduloChecks l r
 boundChecks C.Log l r = logChecks l r
 boundChecks C.Power l r = powerChecks l r
 boundChecks C.Negative l r = []
+boundChecks C.Pool l r = []
 
 -- 01: "Modulo, Log and Power check 6, 7, 14, 15, 16, 11, then 17 to 26, then 8"; for 11 "only left's is read"
 abbrev pub copyChecks : Component → Sheet → Sheet → List Check

@@ -29,7 +29,7 @@ ghost use Rattle.base.specs.Bounds.{lowersPositive};
 ghost use Rattle.base.specs.Checks.{sizesFail};
 ghost use Rattle.base.specs.Code.{bitsIn, headFields};
 ghost use Rattle.shape.specs.Shape.{bothPrivate, sameGroups};
-ghost use Rattle.orders.specs.Orders.{aggregated, notOne, sampled, operandChecks, unaryChecks, shapeChecks, pairChecks, moduloChecks, dataChecks, logChecks, powerChecks, boundChecks, copyChecks, lastChecks};
+ghost use Rattle.orders.specs.Orders.{aggregated, notOne, sampled, operandChecks, unaryChecks, shapeChecks, pairChecks, stackChecks, poolChecks, moduloChecks, dataChecks, logChecks, powerChecks, boundChecks, copyChecks, lastChecks};
 ghost use Rattle.orders.specs.Parts.{Operand, first, next, operandsCode, only};
 
 // The number of a check that fails, else what the later ones say.
@@ -143,6 +143,33 @@ pub fn pair_code(f: Form, left: &[u8], right: &[u8], l: Head, r: Head) -> u32
     first(GROUPS, clash, shape_code(l, r))
 }
 
+// 11, 12 and 14 of Pool.
+fn stack_code(l: Head, r: Head) -> u32
+    ensures { λ o. ⌜ o ≡ firstFailing (stackChecks (only (headFields l)) (only (headFields r))) ⌝ }
+{
+    let absent = shape::columns_absent(l) | shape::columns_absent(r);
+    let columns = shape::columns_unequal(l, r);
+    let types = l.data_type != r.data_type;
+    first(
+        NO_COLUMNS,
+        absent,
+        first(COLUMNS, columns, first(TYPES, types, 0)),
+    )
+}
+
+// Pool.
+pub fn pool_code(f: Form, left: &[u8], right: &[u8], l: Head, r: Head) -> u32
+    requires { ⌜ Operand (formOf f) (now left) l × Operand (formOf f) (now right) r ⌝ }
+    ensures { λ o. ⌜ o ≡ firstFailing (poolChecks (decode (formOf f) (now (left .entry))) (decode (formOf f) (now (right .entry)))) ⌝ }
+{
+    let k = operands_code(l, r);
+    if k != 0 {
+        return k;
+    }
+    let clash = groups_clash(f, left, right, l, r);
+    first(GROUPS, clash, stack_code(l, r))
+}
+
 // ---- 14 to 16
 
 fn both_of(l: Head, r: Head, kind: u8) -> bool
@@ -230,6 +257,7 @@ fn bound_code(f: Form, c: Component, left: &[u8], right: &[u8], l: Head, r: Head
         Component::Log => log_code(f, left, right, l),
         Component::Power => power_code(f, right, l, r),
         Component::Negative => 0,
+        Component::Pool => 0,
     }
 }
 

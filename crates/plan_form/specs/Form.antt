@@ -33,7 +33,7 @@ module _ (p : List ℕ) where
   abbrev pub stepCount : ℕ
   stepCount = nodeCount - leafCount
 
-  -- 01: "two arrays of N − K 32-bit numbers: components 1 to 9, and left + 65,536 × right". Of node k, which is step k − K
+  -- 01: "two arrays of N − K 32-bit numbers: components 1 to 9, and left + 65,536 × right"; 02, S-1: "the plan admit component 10". Of node k, which is step k − K
   abbrev pub componentNumber : ℕ → ℕ
   componentNumber k = leAt 4 (stepsAt + 4 * (k - leafCount)) p
 

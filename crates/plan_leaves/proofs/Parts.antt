@@ -14,7 +14,7 @@ use borrow.Rule.Slice.PartMut.{putMid}
 use borrow.Author.Tests.{le-leb}
 use Rattle.base.specs.Form.{narrow, natureAt, longest, lengthCalledFor}
 use Rattle.calls.specs.Walk.{slotAt, slot, sheetIn}
-use Rattle.lending.specs.Code.{holdsLists}
+use Rattle.lending.specs.Code.{holdsCategories}
 use Rattle.plan_leaves.specs.Code.{SlotIn, EndsAt}
 
 module _ (a : ℕ) (xs : List ℕ) where
@@ -51,7 +51,7 @@ module _ (work : List ℕ) (k n : ℕ) (called : n ≡ lengthCalledFor narrow (s
       }
 
 -- every sheet has its fields
-pub slot-holds : (work : List ℕ) (k : ℕ) → SlotIn work k → holdsLists narrow (slot narrow k work) ≡ holdsLists narrow (sheetIn narrow k work)
+pub slot-holds : (work : List ℕ) (k : ℕ) → SlotIn work k → holdsCategories narrow (slot narrow k work) ≡ holdsCategories narrow (sheetIn narrow k work)
 unfolding sheetIn
 slot-holds work k room =
     let s = slot narrow k work in

@@ -5,7 +5,7 @@ ghost use mathlib.Core.Path.{_≡_};
 ghost use Rattle.base.specs.Form.{narrow};
 ghost use Rattle.base.specs.Checks.{read};
 ghost use Rattle.base.specs.Code.{codeOf};
-ghost use Rattle.lending.specs.Code.{holdsLists};
+ghost use Rattle.lending.specs.Code.{holdsCategories};
 ghost use Rattle.plan_form.specs.Form.{leftOf};
 ghost use Rattle.calls.specs.Walk.{sheetIn};
 ghost use Rattle.plan_leaves.specs.Code.{SlotIn, EndsAt, Steppable, walked, Walkable, LeavesSay, Begun};
@@ -51,11 +51,11 @@ pub fn check_leaf(work: &[u8], k: usize) -> u32
 // Whether step k may use the category stores: the nature tells, which stands in every slot.
 pub fn may_use_stores(plan: &[u8], k: usize, work: &[u8]) -> bool
     requires { ⌜ Steppable (now plan) k (now work) ⌝ }
-    ensures { λ r. ⌜ r ≡ holdsLists narrow (sheetIn narrow (leftOf (now (plan .entry)) k) (now (work .entry))) ⌝ }
+    ensures { λ r. ⌜ r ≡ holdsCategories narrow (sheetIn narrow (leftOf (now (plan .entry)) k) (now (work .entry))) ⌝ }
 {
     let start = plan_form::left_operand(plan, k) * SLOT;
     let end = start + SLOT;
-    lending::holds_lists(Form::Narrow, &work[start..end])
+    lending::holds_categories(Form::Narrow, &work[start..end])
 }
 
 // All leaves pass 3 to 5 before any step.

@@ -2,7 +2,7 @@
 --     step-unlisted, step-taken       what it answers
 --     step-lent, left-joins           what it is lent: the category stores, or it does not use them
 -- Assumes nothing.
-use mathlib.Core.Path.{_≡_, refl, sym, ap, subst}
+use mathlib.Core.Path.{_≡_, refl, sym, ap, subst, _∙_}
 use mathlib.Core.Bool.{Bool, true, false, cond}
 use mathlib.Core.List.{List, _++_}
 use Prim.Native.Nat.{ℕ, _+_, _≤_}
@@ -16,13 +16,12 @@ use Rattle.base.specs.Form.{Form, narrow, entriesAt, longest}
 use Rattle.base.specs.Components.{componentOf}
 use Rattle.base.specs.declared.Component.{Component}
 use Rattle.base.specs.declared.Family.{Family}
-use Rattle.base.specs.declared.Family.the-variants as Fam
 use Rattle.base.specs.declared.Numbered.the-variants as N
-use Rattle.base.proofs.Flags.{and-both}
 use Rattle.writer.specs.Written.{endsRoom, listsRoom}
 use Rattle.calls.specs.Single.{Outcome, outcome, step, delivery, singleOf}
 use Rattle.deliveries.specs.Code.{given}
-use Rattle.lending.specs.Code.{holdsLists, joinsLists, Lent, Buffers}
+use Rattle.lending.specs.Code.{holdsCategories, joinsLists, Lent, Buffers}
+use Rattle.lending.proofs.Lending.{none-held}
 use Rattle.plan_form.specs.Form.{componentNumber, leftOf, rightOf}
 use Rattle.calls.specs.Walk.{slotAt, sheetIn, stepOn}
 use Rattle.plan_step.specs.Code.{Rooms, Large}
@@ -58,8 +57,10 @@ module _ {m : Family} {F : Form} {left right hints first second scratch : List �
     record { stores = λ e. large e .stores; arrays = λ e. large e .arrays },
   )
 
--- left alone decides where it holds no lists
-pub left-joins : (m : Family) (F : Form) (left right : List ℕ) → joinsLists m F left right ≡ true → holdsLists F left ≡ true
-left-joins Fam.Unary F left right e = e
-left-joins Fam.Pair F left right e = and-both (holdsLists F left) (holdsLists F right) e .0
-left-joins Fam.Copy F left right e = absurd (subst T (sym e) tt)
+-- left alone decides where it holds no categories
+pub left-joins : (m : Family) (F : Form) (left right : List ℕ) → joinsLists m F left right ≡ true → holdsCategories F left ≡ true
+left-joins m F left right e = go (holdsCategories F left) refl
+  where
+    go : (b : Bool) → holdsCategories F left ≡ b → holdsCategories F left ≡ true
+    go true h = h
+    go false h = absurd (subst T (sym (none-held m F left right h ∙ e)) tt)

@@ -8,7 +8,7 @@ ghost use mathlib.Core.Path.{_≡_};
 ghost use mathlib.Core.Bool.{true};
 ghost use Rattle.base.specs.Form.{narrow};
 ghost use Rattle.deliveries.specs.Code.{given};
-ghost use Rattle.lending.specs.Code.{holdsLists};
+ghost use Rattle.lending.specs.Code.{holdsCategories};
 ghost use Rattle.plan_form.specs.Form.{leftOf};
 ghost use Rattle.calls.specs.Walk.{sheetIn, stepOn};
 ghost use Rattle.plan_leaves.specs.Code.{Steppable};
@@ -28,7 +28,7 @@ pub fn step_on(
     scratch: &mut [u8],
 ) -> Put
     requires { ⌜ Steppable (now plan) k (now work) × Rooms narrow (now first) (now second) (now scratch) ⌝ }
-    requires { ⌜ (holdsLists narrow (sheetIn narrow (leftOf (now plan) k) (now work)) ≡ true → Large narrow (now us) (now bs) (now store) (now hints) (now first) (now second) (now scratch)) ⌝ }
+    requires { ⌜ (holdsCategories narrow (sheetIn narrow (leftOf (now plan) k) (now work)) ≡ true → Large narrow (now us) (now bs) (now store) (now hints) (now first) (now second) (now scratch)) ⌝ }
     ensures { λ r. ⌜ given r (now (work .exit)) ≡ stepOn narrow (now (plan .entry)) k (now (work .entry)) ⌝ }
 {
     let numbered = Component::from_number(plan_form::component_number(plan, k));

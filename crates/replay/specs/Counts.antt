@@ -13,9 +13,9 @@ use Rattle.replay.specs.declared.tally.Tally.{Tally}
 abbrev pub oneMore : ℕ → ℕ
 oneMore n = min (n + 1) (2 ^ 64 - 1)
 
--- the components are 1 to 9; 0 stands for every other number, and for a plan
+-- the components are 1 to 10; 0 stands for every other number, and for a plan
 unfoldable pub placeOf : ℕ → ℕ
-placeOf component = cond (ltb component 10) component 0
+placeOf component = cond (ltb component 11) component 0
 
 abbrev pub oneMoreAt : ℕ → List ℕ → List ℕ
 oneMoreAt k counts = set counts k (oneMore (getD counts k 0))

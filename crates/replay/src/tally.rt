@@ -8,8 +8,8 @@ use answers::Stored;
 use answers::Told;
 use libc::STDOUT_FILENO;
 
-// The components are 1 to 9; 0 stands for every other number, and for a plan.
-const PLACES: usize = 10;
+// The components are 1 to 10; 0 stands for every other number, and for a plan.
+const PLACES: usize = 11;
 
 pub struct Tally {
     pub lines: u64,
@@ -33,9 +33,9 @@ fn more(n: u64) -> u64
 }
 
 fn place(component: u32) -> usize
-    ensures { λ r. ⌜ (r < 10) × (r ≡ placeOf component) ⌝ }
+    ensures { λ r. ⌜ (r < 11) × (r ≡ placeOf component) ⌝ }
 {
-    if component < 10 {
+    if component < 11 {
         component as usize
     } else {
         0
@@ -44,7 +44,7 @@ fn place(component: u32) -> usize
 
 impl Tally {
     pub(crate) fn new() -> Self
-        ensures { λ r. ⌜ (r .lines ≡ 0) × (r .unread ≡ 0) × (r .agree ≡ replicate 10 0) × (r .differ ≡ replicate 10 0) ⌝ }
+        ensures { λ r. ⌜ (r .lines ≡ 0) × (r .unread ≡ 0) × (r .agree ≡ replicate 11 0) × (r .differ ≡ replicate 11 0) ⌝ }
     {
         Tally {
             lines: 0,

@@ -1,4 +1,4 @@
--- 01, "Other fields": the sheet that a component derives of its operands and of the new nature.
+-- 01, "Other fields", and 02, S-1: the sheet that a component derives of its operands and of the new nature.
 use mathlib.Core.Bool.{Bool, true, false, _&&_, _||_}
 use mathlib.Core.Option.{Option, none, some}
 use Prim.Native.Nat.{ℕ, max}
@@ -44,6 +44,7 @@ isDivide C.Modulo = false
 isDivide C.Log = false
 isDivide C.Power = false
 isDivide C.Negative = false
+isDivide C.Pool = false
 
 unfoldable pub addsNullity : Component → Nature → Bool
 addsNullity c k = isDivide c && divisorSetsNullity k
@@ -83,12 +84,34 @@ copyFields x y = record {
   sample = x .sample;
 }
 
--- the sheets of components 2 to 5, of 6 to 8, and of 1 and 9; the call's node number enters in `numbered`
+-- 02, S-1: "Rows are the sum ..", as `rows` says; "Nullity and not empty hold if either has them, releasable if both. C-stability, columns and dimensionality
+-- take the greater; type comes from left ..; dataset id, sample and aggregator are absent; ordered is 0"
+unfoldable pub poolFields : Option ℤ → Fields → Fields → Fields
+poolFields rows x y = record {
+  dataType = x .dataType;
+  nullity = x .nullity || y .nullity;
+  releasable = x .releasable && y .releasable;
+  notEmpty = x .notEmpty || y .notEmpty;
+  ordered = false;
+  cStability = max (x .cStability) (y .cStability);
+  aggregator = 0;
+  rows = rows;
+  columns = some (widest x y);
+  dataset = none;
+  dimensionality = greaterOption (x .dimensionality) (y .dimensionality);
+  sample = none;
+}
+
+-- the sheets of components 2 to 5, of 6 to 8, of 10, and of 1 and 9; the call's node number enters in `numbered`
 abbrev pub pairSheet : Component → Sheet → Sheet → Nature → Sheet
 pairSheet c l r k = record { fields = pairFields (addsNullity c (r .nature)) (l .fields) (r .fields); node = l .node; groups = groupsOf l r; nature = k }
 
 abbrev pub copySheet : Sheet → Sheet → Nature → Sheet
 copySheet l r k = record { fields = copyFields (l .fields) (r .fields); node = l .node; groups = groupsOf l r; nature = k }
+
+-- 02, S-1: "groups as for the other pairs"
+abbrev pub poolSheet : Option ℤ → Sheet → Sheet → Nature → Sheet
+poolSheet rows l r k = record { fields = poolFields rows (l .fields) (r .fields); node = l .node; groups = groupsOf l r; nature = k }
 
 -- 01: "Abs and Negative copy left but for nature"
 abbrev pub unarySheet : Sheet → Nature → Sheet
@@ -97,8 +120,9 @@ unarySheet s k = record { fields = s .fields; node = s .node; groups = s .groups
 abbrev pub withNode : ℤ → Sheet → Sheet
 withNode z s = record { fields = s .fields; node = z; groups = s .groups; nature = s .nature }
 
--- 01: "node the call's" for 2 to 5; the others keep left's
+-- 01: "node the call's" for 2 to 5; 02, S-1: "the node is the call's"; the others keep left's
 unfoldable pub numbered : Family → ℕ → Sheet → Sheet
 numbered Fam.Unary node s = s
 numbered Fam.Pair node s = withNode (pos node) s
 numbered Fam.Copy node s = s
+numbered Fam.Pool node s = withNode (pos node) s

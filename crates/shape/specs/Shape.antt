@@ -1,12 +1,14 @@
--- `propagate_binary_group_id` and `propagate_binary_shape`: groups, columns and rows of two operands.
+-- `propagate_binary_group_id` and `propagate_binary_shape`: groups, columns and rows of two operands; and the rows of Pool.
 use mathlib.Core.Bool.{Bool, true, false, cond, not, _&&_, _||_}
 use mathlib.Core.List.{List, [], _∷_}
 use mathlib.Core.Option.{Option, none, some, Option·getD}
 use Prim.Native.Nat.{ℕ, max}
-use lib.IntN.{ℤ, pos}
+use lib.IntN.{ℤ, pos, _+ℤ_}
 use lib.Dec.{eqb}
 use lib.Signed.{ltZ}
-use Rattle.numbers.specs.Kind.{eqZ}
+use Rattle.numbers.specs.Result.{Result, ok, andThen}
+use Rattle.numbers.specs.Checked.{checkedOf}
+use Rattle.numbers.specs.Kind.{eqZ, fitting}
 use Rattle.base.specs.Sheet.{Group, Fields, Sheet}
 use Rattle.base.specs.Bounds.{isPresent}
 
@@ -70,7 +72,11 @@ module _ (x y : Fields) where
   abbrev pub columnsClash : Bool
   columnsClash = not (eqb (columnsOf x) (columnsOf y)) && not (eqb (columnsOf x) 1) && not (eqb (columnsOf y) 1)
 
-  -- 01: "columns .. greater"
+  -- 02, S-1: "12 (here unequal counts always)"
+  abbrev pub columnsUnequal : Bool
+  columnsUnequal = not (eqb (columnsOf x) (columnsOf y))
+
+  -- 01: "columns .. greater"; 02, S-1: "columns .. take the greater"
   abbrev pub widest : ℕ
   widest = max (columnsOf x) (columnsOf y)
 
@@ -85,3 +91,9 @@ module _ (x y : Fields) where
   -- 01: "Otherwise the greater, absent if either is"
   abbrev pub rowsOf : Option ℤ
   rowsOf = cond rowsAgree (greaterPresent (x .rows) (y .rows)) none
+
+-- 02, S-1: "Rows are the sum, absent if either is, with 24 when it leaves 64 bits"
+unfoldable pub rowsSum : Option ℤ → Option ℤ → Result (Option ℤ)
+rowsSum none y = ok none
+rowsSum (some a) none = ok none
+rowsSum (some a) (some b) = andThen (fitting (checkedOf (a +ℤ b))) (λ n. ok (some n))

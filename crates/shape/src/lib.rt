@@ -8,7 +8,7 @@ ghost use Prim.Native.Nat.{max};
 ghost use Rattle.numbers.specs.Kind.{eqZ};
 ghost use Rattle.base.specs.Bounds.{isPresent};
 ghost use Rattle.base.specs.Code.{signedOf, headFields};
-ghost use Rattle.shape.specs.Shape.{sameOption, greaterOption, greaterPresent, rowSpreads, rowsAgree, rowsOf, columnsOf, columnsAbsent, columnsClash, widest, sameDataset, rowsClash};
+ghost use Rattle.shape.specs.Shape.{sameOption, greaterOption, greaterPresent, rowSpreads, rowsAgree, rowsOf, columnsOf, columnsAbsent, columnsClash, columnsUnequal, widest, sameDataset, rowsClash};
 ghost use Rattle.shape.specs.Fields.{pairFields, copyFields};
 
 pub mod bounds; // what the ends of a range are asked
@@ -43,7 +43,7 @@ fn is_present(x: OptionI64) -> bool
 }
 
 // The greater of the two; an absent value is the least.
-fn greater_option(x: OptionI64, y: OptionI64) -> OptionI64
+pub fn greater_option(x: OptionI64, y: OptionI64) -> OptionI64
     ensures { λ r. ⌜ signedOf r ≡ greaterOption (signedOf x) (signedOf y) ⌝ }
 {
     let OptionI64::Is(a) = x else {
@@ -95,6 +95,15 @@ pub fn columns_clash(l: Head, r: Head) -> bool
     let x = columns_of(l);
     let y = columns_of(r);
     (x != y) & (x != 1) & (y != 1)
+}
+
+// Pool takes no other counts than equal ones.
+pub fn columns_unequal(l: Head, r: Head) -> bool
+    ensures { λ o. ⌜ o ≡ columnsUnequal (headFields l) (headFields r) ⌝ }
+{
+    let x = columns_of(l);
+    let y = columns_of(r);
+    x != y
 }
 
 // The columns of a pair's result.
@@ -154,7 +163,7 @@ pub fn rows_of(l: Head, r: Head) -> OptionI64
 
 // ---- the fields that a component derives
 
-fn greater(x: u32, y: u32) -> u32
+pub fn greater(x: u32, y: u32) -> u32
     ensures { λ r. ⌜ r ≡ max x y ⌝ }
 {
     if x < y { y } else { x }

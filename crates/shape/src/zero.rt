@@ -68,6 +68,7 @@ fn is_divide(c: Component) -> bool
         Component::Log => false,
         Component::Power => false,
         Component::Negative => false,
+        Component::Pool => false,
     }
 }
 

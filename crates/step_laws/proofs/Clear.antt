@@ -17,15 +17,17 @@ use Rattle.utilities.specs.Lists.{every, standardized, repeated}
 use Rattle.utilities.proofs.Built.{both-hold}
 use Rattle.utilities.specs.Columns.{spreads, each, eachPair}
 use Rattle.base.specs.Form.{intType}
-use Rattle.base.specs.Encode.{total}
+use Rattle.base.specs.Sheet.{Nature, wholeLists}
+use Rattle.base.specs.Encode.{valueCount}
 use Rattle.base.specs.Components.{familyOf}
 use Rattle.base.specs.declared.Component.{Component}
 use Rattle.base.specs.declared.Component.the-variants as C
-use Rattle.ends.specs.Ends.{both, present, fromTwo, fromOne, fromBoth, addEnds, subEnds, negEnds, absLower, absUpper, absEnds, corners, mulCorners, mulEnds, divCorners, divUpper, divLower, divPresent, divBy, divEnds, modEnds, endRule}
+use Rattle.ends.specs.Ends.{both, present, fromTwo, fromOne, fromBoth, addEnds, subEnds, negEnds, absLower, absUpper, absEnds, corners, mulCorners, mulEnds, divCorners, divUpper, divLower, divPresent, divBy, divEnds, modEnds, poolEnds, endRule}
 use Rattle.ends.specs.Ranges.{wholeRule, rangePair, rangeAlone}
-use Rattle.category_lists.specs.Categories.{categoryRule, pairs, product, combined, mapped, counted, limited}
-use Rattle.natures.specs.Code.{isIntCopy}
-use Rattle.steps.proofs.Passing.{Passing}
+use Rattle.category_lists.specs.Categories.{categoryRule, pairs, product, combined, mapped, union, united, keptTo, limited}
+use Rattle.shape.specs.Shape.{rowsSum}
+use Rattle.orders.specs.Parts.{isIntCopy}
+use Rattle.orders.proofs.Passing.{Passing}
 
 -- a value, or a refusal with another number
 pub data Clear {X : Type 0} : Result X → Type 0 where
@@ -91,6 +93,13 @@ float-clear = record {
   last = λ a. value;
 }
 
+-- the rows of Pool
+pub rows-clear : (x y : Option ℤ) → Clear (rowsSum x y)
+unfolding rowsSum
+rows-clear none y = value
+rows-clear (some a) none = value
+rows-clear (some a) (some b) = then-clear _ (fitting-clear (checkedOf (a +ℤ b))) (λ n. value)
+
 -- ---- range ends
 
 module _ {E : Type 0} where
@@ -153,7 +162,7 @@ module _ {E : Type 0} {K : Kind E} (k : ClearKind K) where
       value))
 
   pub rule-clear : (c : Component) (x y : Span E) → Clear (endRule K c x y)
-  unfolding endRule addEnds subEnds divEnds modEnds negEnds
+  unfolding endRule addEnds subEnds divEnds modEnds negEnds poolEnds
   rule-clear C.Abs x y = abs-clear x
   rule-clear C.Add x y = both-clear (two-clear (K .add) (k .add) (x .lower) (y .lower)) (two-clear (K .add) (k .add) (x .upper) (y .upper))
   rule-clear C.Subtract x y = both-clear (two-clear (K .sub) (k .sub) (x .lower) (y .lower)) (two-clear (K .sub) (k .sub) (x .upper) (y .upper))
@@ -163,6 +172,7 @@ module _ {E : Type 0} {K : Kind E} (k : ClearKind K) where
   rule-clear C.Log x y = value
   rule-clear C.Power x y = value
   rule-clear C.Negative x y = both-clear (one-clear (K .neg) (k .neg) (x .upper)) (one-clear (K .neg) (k .neg) (x .lower))
+  rule-clear C.Pool x y = both-clear (two-clear _ (λ a d. value) (x .lower) (y .lower)) (two-clear _ (λ c f. value) (x .upper) (y .upper))
 
 pub whole-rule-clear : (c : Component) (type : ℕ) (x y : Span ℤ) → Clear (wholeRule c type x y)
 unfolding wholeRule
@@ -175,6 +185,7 @@ whole-rule-clear C.Modulo type x y = cond-clear (eqb type intType) (rule-clear w
 whole-rule-clear C.Log type x y = rule-clear whole-clear C.Log x y
 whole-rule-clear C.Power type x y = rule-clear whole-clear C.Power x y
 whole-rule-clear C.Negative type x y = rule-clear whole-clear C.Negative x y
+whole-rule-clear C.Pool type x y = rule-clear whole-clear C.Pool x y
 
 -- ---- columns
 
@@ -221,9 +232,21 @@ module _ {X : Type 0} (same : X → X → Bool) (rule : X → X → Result X) (f
   unfolding mapped
   mapped-clear columns ls = each-clear _ (λ l. each-clear _ (λ a. f a a) l) (standardized same columns ls)
 
+module _ {X : Type 0} (same : X → X → Bool) where
+  union-clear : (us bs : List X) → Clear (union same us bs)
+  unfolding union
+  union-clear us bs = value
+
+  pub united-clear : (columns : ℕ) (ls ms : List (List X)) → Clear (united same columns ls ms)
+  unfolding united
+  united-clear columns ls ms = each-pair-clear (union same) union-clear (standardized same columns ls) (standardized same columns ms)
+
+pub kept-clear : (limit : ℕ) (k : Nature) → Clear (keptTo limit k)
+unfolding keptTo
+kept-clear limit k = cond-clear (ltb limit (valueCount k)) (other refl) value
+
 pub limited-clear : (limit : ℕ) {g : Result (List (List ℤ))} → Clear g → Clear (limited limit g)
-unfolding counted
-limited-clear limit p = then-clear _ p (λ ls. then-clear _ (cond-clear (ltb limit (total ls)) (other refl) value) (λ ms. value))
+limited-clear limit p = then-clear _ p (λ ls. kept-clear limit (wholeLists ls))
 
 -- a component has no rule, or one that never refuses with 25
 pub data ClearRule : Option (ℤ → ℤ → Result ℤ) → Type 0 where
@@ -242,3 +265,4 @@ category-clear C.Modulo type e = rw e no-rule
 category-clear C.Log type e = no-rule
 category-clear C.Power type e = rw e no-rule
 category-clear C.Negative type e = by-rule (λ a b. whole-clear .neg a)
+category-clear C.Pool type e = no-rule

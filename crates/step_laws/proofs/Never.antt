@@ -28,15 +28,15 @@ use Rattle.ends.specs.Ends.{endRule}
 use Rattle.ends.specs.Ranges.{wholeRule}
 use Rattle.category_lists.specs.Categories.{ruled}
 use Rattle.shape.specs.Shape.{columnsOf, columnsAbsent, widest}
-use Rattle.orders.specs.Orders.{unaryChecks, pairChecks, boundChecks, copyChecks, lastChecks}
+use Rattle.orders.specs.Orders.{unaryChecks, pairChecks, boundChecks, copyChecks, lastChecks, poolChecks}
+use Rattle.orders.specs.Parts.{isIntCopy}
 use Rattle.orders.proofs.Orders.{bounds-every}
-use Rattle.calls.specs.Natures.{ruleFor, wholeListsOf, listChecks, bothListChecks, listsPair, listsAlone, wholeRangeWith, floatRangeWith, listsWith, binaryNature, unaryNature}
-use Rattle.calls.specs.Derive.{deriveUnary, derivePair, deriveCopy, deriveBy, derive}
+use Rattle.orders.proofs.Passing.{Passing, pass-parts, bounds-int}
+use Rattle.calls.specs.Natures.{ruleFor, wholeListsOf, boolListsOf, listChecks, bothListChecks, unitedNature, listsUnited, listsPair, listsAlone, wholeRangeWith, floatRangeWith, listsWith, twoNatures, binaryNature, poolNature, unaryNature}
+use Rattle.calls.specs.Derive.{deriveUnary, derivePair, deriveCopy, derivePool, deriveBy, derive}
 use Rattle.calls.specs.Single.{Outcome, stepSheet, step, delivery, singleOf, single}
-use Rattle.natures.specs.Code.{isIntCopy}
 use Rattle.step_laws.specs.Unreached.{isLists}
-use Rattle.steps.proofs.Passing.{Passing, pass-parts, bounds-int}
-use Rattle.step_laws.proofs.Clear.{Clear, value, other, then-clear, cond-clear, others, checked-clear, whole-clear, float-clear, rule-clear, whole-rule-clear, range-pair-clear, range-alone-clear, combined-clear, mapped-clear, limited-clear, ClearRule, no-rule, by-rule, category-clear}
+use Rattle.step_laws.proofs.Clear.{Clear, value, other, then-clear, cond-clear, others, checked-clear, whole-clear, float-clear, rows-clear, rule-clear, whole-rule-clear, range-pair-clear, range-alone-clear, combined-clear, mapped-clear, united-clear, kept-clear, limited-clear, ClearRule, no-rule, by-rule, category-clear}
 
 -- ---- natures
 
@@ -45,6 +45,57 @@ ruled-clear :
     → ((rule : ℤ → ℤ → Result ℤ) → ((a b : ℤ) → Clear (rule a b)) → Clear (rest rule)) → Clear (ruled o rest)
 ruled-clear none rest no-rule f = other refl
 ruled-clear (some rule) rest (by-rule r) f = f rule r
+
+-- two natures, of which two categories are clear together
+module _ (c : Component) (type columns : ℕ) (together : Nature → Nature → Result Nature) where
+  lists-clear : (l r : Nature) → (isLists r ≡ true → Clear (together l r)) → Clear (listsWith c type columns together l r)
+  unfolding listsWith
+  lists-clear l absent f = value
+  lists-clear l (wholeRange ys) f = value
+  lists-clear l (floatRange ys) f = value
+  lists-clear l (wholeLists ms) f = f refl
+  lists-clear l (boolLists ms) f = f refl
+  lists-clear l (floatLists ms) f = f refl
+
+  whole-with-clear : (xs : List (Span ℤ)) (r : Nature) → Clear (wholeRangeWith c type columns together xs r)
+  unfolding wholeRangeWith
+  whole-with-clear xs absent = value
+  whole-with-clear xs (wholeRange ys) = then-clear _ (range-pair-clear (wholeRule c type) (whole-rule-clear c type) columns xs ys) (λ zs. value)
+  whole-with-clear xs (floatRange ys) = other refl
+  whole-with-clear xs (wholeLists ms) = value
+  whole-with-clear xs (boolLists ms) = value
+  whole-with-clear xs (floatLists ms) = value
+
+  float-with-clear : (xs : List (Span Float)) (r : Nature) → Clear (floatRangeWith c type columns together xs r)
+  unfolding floatRangeWith
+  float-with-clear xs absent = value
+  float-with-clear xs (wholeRange ys) = other refl
+  float-with-clear xs (floatRange ys) = then-clear _ (range-pair-clear (endRule float c) (rule-clear float-clear c) columns xs ys) (λ zs. value)
+  float-with-clear xs (wholeLists ms) = value
+  float-with-clear xs (boolLists ms) = value
+  float-with-clear xs (floatLists ms) = value
+
+  natures-clear : (l r : Nature) → (isLists r ≡ true → Clear (together l r)) → Clear (twoNatures c type columns together l r)
+  unfolding twoNatures
+  natures-clear absent r f = value
+  natures-clear (wholeRange xs) r f = whole-with-clear xs r
+  natures-clear (floatRange xs) r f = float-with-clear xs r
+  natures-clear (wholeLists ls) r f = lists-clear (wholeLists ls) r f
+  natures-clear (boolLists ls) r f = lists-clear (boolLists ls) r f
+  natures-clear (floatLists ls) r f = lists-clear (floatLists ls) r f
+
+united-nature-clear : (columns : ℕ) (l r : Nature) → Clear (unitedNature columns l r)
+united-nature-clear columns absent r = value
+united-nature-clear columns (wholeRange xs) r = value
+united-nature-clear columns (floatRange xs) r = value
+united-nature-clear columns (wholeLists ls) r = then-clear _ (united-clear eqZ columns ls (wholeListsOf r)) (λ ns. value)
+united-nature-clear columns (boolLists ls) r = then-clear _ (united-clear eqb columns ls (boolListsOf r)) (λ ns. value)
+united-nature-clear columns (floatLists ls) r = value
+
+pool-clear : (c : Component) (type columns : ℕ) (l r : Nature) → Clear (poolNature c type columns l r)
+unfolding listsUnited every
+pool-clear c type columns l r =
+    natures-clear c type columns (listsUnited columns) l r (λ h. checked-clear (bothListChecks l r) refl (λ p. united-nature-clear columns l r))
 
 module _ (limit : ℕ) (c : Component) (type columns : ℕ) where
   rule-for-clear : isIntCopy (familyOf c) type ≡ false → (l : Nature) → ClearRule (ruleFor c type l)
@@ -71,45 +122,12 @@ module _ (limit : ℕ) (c : Component) (type columns : ℕ) where
   abbrev Apart : Nature → Type 0
   Apart r = (isIntCopy (familyOf c) type && isLists r) ≡ false
 
-  apart-rule : (t : Bool) → (t && true) ≡ false → t ≡ false
-  apart-rule true e = e
-  apart-rule false e = e
-
-  lists-clear : (l r : Nature) → Apart r → Clear (listsWith limit c type columns l r)
-  unfolding listsWith
-  lists-clear l absent e = value
-  lists-clear l (wholeRange ys) e = value
-  lists-clear l (floatRange ys) e = value
-  lists-clear l (wholeLists ms) e = pair-clear (apart-rule (isIntCopy (familyOf c) type) e) l (wholeLists ms)
-  lists-clear l (boolLists ms) e = pair-clear (apart-rule (isIntCopy (familyOf c) type) e) l (boolLists ms)
-  lists-clear l (floatLists ms) e = pair-clear (apart-rule (isIntCopy (familyOf c) type) e) l (floatLists ms)
-
-  whole-with-clear : (xs : List (Span ℤ)) (r : Nature) → Clear (wholeRangeWith limit c type columns xs r)
-  unfolding wholeRangeWith
-  whole-with-clear xs absent = value
-  whole-with-clear xs (wholeRange ys) = then-clear _ (range-pair-clear (wholeRule c type) (whole-rule-clear c type) columns xs ys) (λ zs. value)
-  whole-with-clear xs (floatRange ys) = other refl
-  whole-with-clear xs (wholeLists ms) = value
-  whole-with-clear xs (boolLists ms) = value
-  whole-with-clear xs (floatLists ms) = value
-
-  float-with-clear : (xs : List (Span Float)) (r : Nature) → Clear (floatRangeWith limit c type columns xs r)
-  unfolding floatRangeWith
-  float-with-clear xs absent = value
-  float-with-clear xs (wholeRange ys) = other refl
-  float-with-clear xs (floatRange ys) = then-clear _ (range-pair-clear (endRule float c) (rule-clear float-clear c) columns xs ys) (λ zs. value)
-  float-with-clear xs (wholeLists ms) = value
-  float-with-clear xs (boolLists ms) = value
-  float-with-clear xs (floatLists ms) = value
+  apart-rule : (t : Bool) {u : Bool} → (t && u) ≡ false → u ≡ true → t ≡ false
+  apart-rule true e h = sym h ∙ e
+  apart-rule false e h = refl
 
   binary-clear : (l r : Nature) → Apart r → Clear (binaryNature limit c type columns l r)
-  unfolding binaryNature
-  binary-clear absent r e = value
-  binary-clear (wholeRange xs) r e = whole-with-clear xs r
-  binary-clear (floatRange xs) r e = float-with-clear xs r
-  binary-clear (wholeLists ls) r e = lists-clear (wholeLists ls) r e
-  binary-clear (boolLists ls) r e = lists-clear (boolLists ls) r e
-  binary-clear (floatLists ls) r e = lists-clear (floatLists ls) r e
+  binary-clear l r e = natures-clear c type columns (listsPair limit c type columns) l r (λ h. pair-clear (apart-rule (isIntCopy (familyOf c) type) e h) l r)
 
   unary-clear : isIntCopy (familyOf c) type ≡ false → (l : Nature) → Clear (unaryNature limit c type columns l)
   unfolding unaryNature
@@ -184,6 +202,14 @@ module _ (limit : ℕ) (c : Component) where
       (bounds-apart l r c (pass-parts bounds (check 11 absent ∷ []) (p .1 .1 .1 .1) .0)))
       (λ k. checked-clear (lastChecks l r) refl (λ q. value)))
 
+  derive-pool-clear : (l r : Sheet) → Clear (derivePool limit c l r)
+  unfolding derivePool every
+  derive-pool-clear l r =
+      checked-clear (poolChecks l r) refl
+      (λ p.
+      then-clear _ (pool-clear c (l .fields .dataType) (widest (l .fields) (r .fields)) (l .nature) (r .nature))
+      (λ k. then-clear _ (rows-clear (l .fields .rows) (r .fields .rows)) (λ rows. then-clear _ (kept-clear limit k) (λ k′. value))))
+
   derive-clear : (l r : Sheet) → Clear (derive limit c l r)
   unfolding derive
   derive-clear l r = go (familyOf c) refl
@@ -192,6 +218,7 @@ module _ (limit : ℕ) (c : Component) where
       go Fam.Unary e = derive-unary-clear (λ type. ap (λ (f : Family). isIntCopy f type) e) l
       go Fam.Pair e = derive-pair-clear (λ type. ap (λ (f : Family). isIntCopy f type) e) l r
       go Fam.Copy e = derive-copy-clear l r
+      go Fam.Pool e = derive-pool-clear l r
 
 -- ---- the single call
 

@@ -12,7 +12,7 @@ use lib.IntN.{ℤ, pos}
 use Rattle.numbers.specs.Result.{Result, ok, refused, andThen, Check, checked}
 use Rattle.numbers.proofs.Results.{never}
 use Rattle.base.specs.Form.{Form}
-use Rattle.base.specs.Sheet.{Sheet, Nature}
+use Rattle.base.specs.Sheet.{Sheet}
 use Rattle.base.specs.Checks.{read}
 use Rattle.base.specs.Code.{codeOf}
 use Rattle.base.specs.Encode.{encode}
@@ -21,11 +21,12 @@ use Rattle.base.specs.declared.Component.{Component}
 use Rattle.base.specs.declared.Component.the-variants as C
 use Rattle.base.specs.declared.Family.{Family}
 use Rattle.base.specs.declared.Family.the-variants as Fam
-use Rattle.shape.specs.Shape.{columnsOf, widest}
-use Rattle.orders.specs.Orders.{unaryChecks, pairChecks, boundChecks, copyChecks, lastChecks}
+use Rattle.shape.specs.Shape.{columnsOf, widest, rowsSum}
+use Rattle.orders.specs.Orders.{unaryChecks, pairChecks, boundChecks, copyChecks, lastChecks, poolChecks}
 use Rattle.shape.specs.Fields.{withNode, numbered}
-use Rattle.calls.specs.Natures.{unaryNature, binaryNature}
-use Rattle.calls.specs.Derive.{deriveUnary, derivePair, deriveCopy, deriveBy, derive}
+use Rattle.category_lists.specs.Categories.{keptTo}
+use Rattle.calls.specs.Natures.{unaryNature, binaryNature, poolNature}
+use Rattle.calls.specs.Derive.{deriveUnary, derivePair, deriveCopy, derivePool, deriveBy, derive}
 use Rattle.calls.specs.Single.{stepSheet, step}
 
 -- what was derived, with n as its node number
@@ -50,9 +51,9 @@ unfolding checked
 checked-alike [] p = p
 checked-alike (c ∷ cs) p = cond-alike (c .fails) (alike-same refl) (checked-alike cs p)
 
-nature-alike : (g : Result Nature) (f h : Nature → Result Sheet) → ((k : Nature) → Alike (f k) (h k)) → Alike (andThen g f) (andThen g h)
-nature-alike (ok k) f h p = p k
-nature-alike (refused k) f h p = alike-same refl
+then-alike : {X : Type 0} (g : Result X) (f h : X → Result Sheet) → ((x : X) → Alike (f x) (h x)) → Alike (andThen g f) (andThen g h)
+then-alike (ok x) f h p = p x
+then-alike (refused k) f h p = alike-same refl
 
 sheet-alike : (g g′ : Result Sheet) (f f′ : Sheet → Result Sheet) → Alike g g′
     → ((l l′ : Sheet) → Alike (ok l) (ok l′) → Alike (f l) (f′ l′)) → Alike (andThen g f) (andThen g′ f′)
@@ -74,32 +75,41 @@ bounds-numberless C.Modulo a b l r = refl
 bounds-numberless C.Log a b l r = refl
 bounds-numberless C.Power a b l r = refl
 bounds-numberless C.Negative a b l r = refl
+bounds-numberless C.Pool a b l r = refl
 
 module _ (limit : ℕ) (c : Component) (a b : ℤ) (l r : Sheet) where
   unary-numberless : Alike (deriveUnary limit c (withNode a l)) (deriveUnary limit c l)
   unfolding deriveUnary
   unary-numberless =
       checked-alike (unaryChecks (l .fields))
-      (nature-alike (unaryNature limit c (l .fields .dataType) (columnsOf (l .fields)) (l .nature)) _ _ (λ k. record { but-node = λ n. refl }))
+      (then-alike (unaryNature limit c (l .fields .dataType) (columnsOf (l .fields)) (l .nature)) _ _ (λ k. record { but-node = λ n. refl }))
 
   pair-numberless : Alike (derivePair limit c (withNode a l) (withNode b r)) (derivePair limit c l r)
   unfolding derivePair
   pair-numberless =
       checked-alike (pairChecks l r)
-      (nature-alike (binaryNature limit c (l .fields .dataType) (widest (l .fields) (r .fields)) (l .nature) (r .nature)) _ _ (λ k. record { but-node = λ n. refl }))
+      (then-alike (binaryNature limit c (l .fields .dataType) (widest (l .fields) (r .fields)) (l .nature) (r .nature)) _ _ (λ k. record { but-node = λ n. refl }))
 
   copy-numberless : Alike (deriveCopy limit c (withNode a l) (withNode b r)) (deriveCopy limit c l r)
   unfolding deriveCopy
   copy-numberless =
       rw (bounds-numberless c a b l r)
       (checked-alike (copyChecks c l r)
-      (nature-alike (binaryNature limit c (l .fields .dataType) (columnsOf (l .fields)) (l .nature) (r .nature)) _ _
+      (then-alike (binaryNature limit c (l .fields .dataType) (columnsOf (l .fields)) (l .nature) (r .nature)) _ _
       (λ k. checked-alike (lastChecks l r) (record { but-node = λ n. refl }))))
+
+  pool-numberless : Alike (derivePool limit c (withNode a l) (withNode b r)) (derivePool limit c l r)
+  unfolding derivePool
+  pool-numberless =
+      checked-alike (poolChecks l r)
+      (then-alike (poolNature c (l .fields .dataType) (widest (l .fields) (r .fields)) (l .nature) (r .nature)) _ _
+      (λ k. then-alike (rowsSum (l .fields .rows) (r .fields .rows)) _ _ (λ rows. then-alike (keptTo limit k) _ _ (λ k′. record { but-node = λ n. refl }))))
 
   by-family : (f : Family) → Alike (deriveBy limit c f (withNode a l) (withNode b r)) (deriveBy limit c f l r)
   by-family Fam.Unary = unary-numberless
   by-family Fam.Pair = pair-numberless
   by-family Fam.Copy = copy-numberless
+  by-family Fam.Pool = pool-numberless
 
   pub numberless : Alike (derive limit c (withNode a l) (withNode b r)) (derive limit c l r)
   unfolding derive

@@ -27,7 +27,7 @@ use Rattle.base.specs.declared.Family.the-variants as Fam
 use Rattle.category_lists.specs.Categories.{categoryRule}
 use Rattle.shape.specs.Shape.{columnsOf, columnsAbsent}
 use Rattle.orders.specs.Orders.{bothOf, boundChecks, copyChecks}
-use Rattle.calls.specs.Natures.{ruleFor, bothListChecks, listsPair, listsWith, binaryNature}
+use Rattle.calls.specs.Natures.{ruleFor, bothListChecks, listsPair, listsWith, twoNatures, binaryNature}
 use Rattle.calls.specs.Derive.{deriveCopy, derive}
 use Rattle.step_laws.specs.Unreached.{RefusedWith, isLists, readsRight}
 use Rattle.step_laws.proofs.Never.{and-no}
@@ -120,6 +120,7 @@ bounds-stop C.Log l r e h = (refl, (refl, inr (refl, inl (rw (no-lowers (r .natu
 bounds-stop C.Power l r e h =
     (refl, (refl, power-stop (bothOf l r intType) (int-no-float (l .fields .dataType) (r .fields .dataType) e) (no-whole-lowers (r .nature) h)))
 bounds-stop C.Negative l r e h = absurd (subst T (sym e) tt)
+bounds-stop C.Pool l r e h = absurd (subst T (sym e) tt)
 
 -- the component reads right's bounds, and categories have none: no rule for categories is reached, whatever left is
 pub categories-unreached :
@@ -154,7 +155,7 @@ module _ (limit type columns : ℕ) (e : eqb type intType ≡ false) where
       (refused-after unruled _ (bothListChecks l r) refl
       (record { number = 22; among = refl; is = refl }))
 
-  with-refused : (l r : Nature) → isLists r ≡ true → RefusedWith unruled (listsWith limit C.Power type columns l r)
+  with-refused : (l r : Nature) → isLists r ≡ true → RefusedWith unruled (listsWith C.Power type columns (listsPair limit C.Power type columns) l r)
   unfolding listsWith
   with-refused l absent h = absurd (subst T (sym h) tt)
   with-refused l (wholeRange rs) h = absurd (subst T (sym h) tt)
@@ -164,7 +165,7 @@ module _ (limit type columns : ℕ) (e : eqb type intType ≡ false) where
   with-refused l (floatLists ls) h = lists-refused l (floatLists ls)
 
   nature-refused : (l r : Nature) → isLists l ≡ true → isLists r ≡ true → RefusedWith unruled (binaryNature limit C.Power type columns l r)
-  unfolding binaryNature
+  unfolding twoNatures
   nature-refused absent r g h = absurd (subst T (sym g) tt)
   nature-refused (wholeRange rs) r g h = absurd (subst T (sym g) tt)
   nature-refused (floatRange rs) r g h = absurd (subst T (sym g) tt)

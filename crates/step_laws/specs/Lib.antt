@@ -1,3 +1,4 @@
 pub mod Unreached
 pub mod Computing
 pub mod Shelf
+pub mod Pooled

@@ -37,3 +37,4 @@ readsRight C.Modulo type = true
 readsRight C.Log type = true
 readsRight C.Power type = eqb type intType
 readsRight C.Negative type = false
+readsRight C.Pool type = false

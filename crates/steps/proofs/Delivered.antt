@@ -1,89 +1,33 @@
--- From the codes, the derived nature and the sheet's bytes to what a step answers.
---     room, bounded                                           a derived nature fits the sheet's buffer
+-- From the codes, the derived nature and the sheet's bytes to what the step of a family answers.
 --     unary-refused, unary-nature-refused, unary-written      Abs and Negative
 --     pair-refused, pair-nature-refused, pair-written         Add, Subtract, Multiply and Divide
 --     copy-refused, copy-nature-refused, copy-last-refused, copy-written    Modulo, Log and Power
 -- Assumes nothing.
 use mathlib.Core.Path.{_≡_, sym, ap, _∙_}
-use mathlib.Core.Bool.{Bool, false, cond}
+use mathlib.Core.Bool.{Bool, cond}
 use mathlib.Core.List.{List}
-use Prim.Native.Nat.{ℕ, _+_, _≤_}
-use native.Mathlib.Omega.{arith}
+use Prim.Native.Nat.{ℕ}
 use lib.IntN.{ℤ, pos}
-use lib.ListN.{length}
 use borrow.Author.Tests.{ne-eqb}
 use Rattle.bytes.specs.Le.{leAt}
-use Rattle.numbers.specs.Result.{Result, ok, refused, andThen, Check, checked, firstFailing}
-use Rattle.numbers.proofs.Results.{never, then-refused}
-use Rattle.base.specs.Form.{Form, groupCount, place, nodeAt, entriesAt}
+use Rattle.numbers.specs.Result.{Result, ok, refused, andThen, checked, firstFailing}
+use Rattle.numbers.proofs.Results.{then-refused}
+use Rattle.base.specs.Form.{Form, place, nodeAt}
 use Rattle.base.specs.Sheet.{Nature, Fields, Sheet}
 use Rattle.base.specs.Decode.{asWhole, fieldsIn, natureIn, groupsIn, decode}
 use Rattle.base.specs.Encode.{encode}
-use Rattle.base.specs.Checks.{sizesFail}
 use Rattle.base.specs.declared.Component.{Component}
-use Rattle.base.proofs.Passed.{passed}
-use Rattle.writer.specs.declared.Parts.{Parts}
-use Rattle.writer.specs.Room.{Room}
-use Rattle.writer.specs.Written.{Written, writtenOf, inWriting, sheetFrom, Placed}
-use Rattle.writer.proofs.Sheets.{sheet-written}
+use Rattle.writer.specs.Written.{Written, writtenOf, inWriting, sheetFrom}
 use Rattle.shape.specs.Shape.{columnsOf, widest}
 use Rattle.shape.specs.Fields.{pairFields, copyFields, addsNullity, pairSheet, copySheet, unarySheet, withNode}
 use Rattle.orders.specs.Orders.{unaryChecks, pairChecks, copyChecks, lastChecks}
-use Rattle.orders.proofs.Refusals.{Numbered, checked-passes, checked-refuses}
+use Rattle.orders.proofs.Refusals.{checked-passes, checked-refuses}
 use Rattle.orders.proofs.Orders.{unary-numbered, pair-numbered, copy-numbered, last-numbered}
+use Rattle.deliveries.proofs.Answers.{check-refuses, nature-refuses, nature-given, sheet-bytes}
 use Rattle.calls.specs.Natures.{unaryNature, binaryNature}
 use Rattle.calls.specs.Derive.{deriveUnary, derivePair, deriveCopy}
 
--- a buffer with room for the most groups and for a nature's arrays has room for the sheet
-pub room :
-    {F : Form} {n : ℕ} {p : Parts} {first second source buf : List ℕ} → Placed F n first second p → sizesFail F source ≡ false → entriesAt F (F .groupLimit) + n ≤ length buf
-    → Room F p first second source buf
-room {F} {source = source} z e b =
-    let g = passed F source e .groupsWithin in
-    record { sized = e; first-held = z .first-held; second-held = z .second-held; entries-fit = z .entries; values-fit = z .values; sheet-fits = omega arith }
-
--- and the sheet that is written ends within it
-pub bounded :
-    {F : Form} {n : ℕ} (source : List ℕ) {p : Parts} {first second : List ℕ} {r b : ℕ} → Placed F n first second p → sizesFail F source ≡ false → entriesAt F (F .groupLimit) + n ≤ b
-    → r ≡ 0 + (entriesAt F (groupCount F source) + p .first + p .second) → r ≤ b
-bounded {F} source z e h n = let g = passed F source e .groupsWithin in omega arith
-
 module _ (F : Form) where
-  -- ---- checks, then a nature, then what becomes of it
-
-  module _ (cs : List Check) (g : Result Nature) (rest : Nature → Result Sheet) (bytes : Sheet → List ℕ) where
-    abbrev answer : Result (List ℕ)
-    answer = andThen (checked cs (andThen g rest)) (λ s. ok (bytes s))
-
-    check-refuses : {k : ℕ} → k ≡ firstFailing cs → (k ≡ 0 → ⊥) → refused k ≡ answer
-    check-refuses {k} e h = sym (then-refused (λ s. ok (bytes s)) (checked-refuses (andThen g rest) cs (sym e) (ne-eqb k 0 h)))
-
-    module _ (z : Numbered cs) (e : firstFailing cs ≡ 0) where
-      checks-pass : andThen (andThen g rest) (λ s. ok (bytes s)) ≡ answer
-      checks-pass = ap (λ (r : Result Sheet). andThen r (λ s. ok (bytes s))) (sym (checked-passes (andThen g rest) cs z e))
-
-      nature-refuses : {k : ℕ} → refused k ≡ inWriting F g → refused k ≡ answer
-      nature-refuses h = go g h ∙ checks-pass
-        where
-          go : (r : Result Nature) {k : ℕ} → refused k ≡ inWriting F r → _≡_ {A = Result (List ℕ)} (refused k) (andThen (andThen r rest) (λ s. ok (bytes s)))
-          go (ok n) h = absurd (never (sym h))
-          go (refused m) {k} h = let same : k ≡ m = cc in ap refused same
-
-      -- whatever nature is written so
-      nature-given :
-          {w : Written} {o : Result (List ℕ)} → ok w ≡ inWriting F g
-          → ((n : Nature) → writtenOf F n ≡ w → o ≡ andThen (rest n) (λ s. ok (bytes s))) → o ≡ answer
-      nature-given {w} {o} h f = go g h ∙ checks-pass
-        where
-          go : (r : Result Nature) → ok w ≡ inWriting F r → o ≡ andThen (andThen r rest) (λ s. ok (bytes s))
-          go (ok n) h = let same : w ≡ writtenOf F n = cc in f n (sym same)
-          go (refused m) h = absurd (never h)
-
-  sheet-bytes :
-      (s : Sheet) {w : Written} {vs : List ℕ} → vs ≡ sheetFrom F (s .fields) (s .node) (s .groups) w → writtenOf F (s .nature) ≡ w
-      → _≡_ {A = Result (List ℕ)} (ok vs) (ok (encode F s))
-  sheet-bytes s e h = ap ok (e ∙ ap (sheetFrom F (s .fields) (s .node) (s .groups)) (sym h) ∙ sym (sheet-written F s))
-
   -- ---- Abs and Negative
 
   abbrev nodeOf : List ℕ → ℤ
@@ -100,7 +44,7 @@ module _ (F : Form) where
     unfolding decode deriveUnary
     unary-refused h =
         let s = decode F left in
-        check-refuses (unaryChecks (s .fields)) (unaryNature (F .categoryLimit) c (s .fields .dataType) (columnsOf (s .fields)) (s .nature)) (λ n. ok (unarySheet s n))
+        check-refuses F (unaryChecks (s .fields)) (unaryNature (F .categoryLimit) c (s .fields .dataType) (columnsOf (s .fields)) (s .nature)) (λ n. ok (unarySheet s n))
         (encode F) unary-code h
 
     module _ {columns : ℕ} (width : columns ≡ columnsOf x) (none : k ≡ 0) where
@@ -114,7 +58,7 @@ module _ (F : Form) where
       unfolding decode deriveUnary
       unary-nature-refused h =
           let s = decode F left in
-          nature-refuses (unaryChecks (s .fields)) (unaryNature (F .categoryLimit) c (s .fields .dataType) (columnsOf (s .fields)) (s .nature))
+          nature-refuses F (unaryChecks (s .fields)) (unaryNature (F .categoryLimit) c (s .fields .dataType) (columnsOf (s .fields)) (s .nature))
           (λ n. ok (unarySheet s n)) (encode F) (unary-numbered (s .fields)) (sym unary-code ∙ none) (h ∙ ap (inWriting F) unary-given)
 
       pub unary-written :
@@ -122,9 +66,9 @@ module _ (F : Form) where
       unfolding decode deriveUnary
       unary-written h e =
           let s = decode F left in
-          nature-given (unaryChecks (s .fields)) (unaryNature (F .categoryLimit) c (s .fields .dataType) (columnsOf (s .fields)) (s .nature))
+          nature-given F (unaryChecks (s .fields)) (unaryNature (F .categoryLimit) c (s .fields .dataType) (columnsOf (s .fields)) (s .nature))
           (λ n. ok (unarySheet s n)) (encode F) (unary-numbered (s .fields)) (sym unary-code ∙ none) (h ∙ ap (inWriting F) unary-given)
-          (λ n same. sheet-bytes (unarySheet s n) (rw head at e) same)
+          (λ n same. sheet-bytes F (unarySheet s n) (rw head at e) same)
 
   -- ---- Add, Subtract, Multiply and Divide
 
@@ -143,7 +87,7 @@ module _ (F : Form) where
     pair-refused h =
         let l = decode F left in
         let r = decode F right in
-        check-refuses (pairChecks l r) pairNature (λ n. ok (pairSheet c l r n)) (λ s. encode F (withNode (pos node) s)) code h
+        check-refuses F (pairChecks l r) pairNature (λ n. ok (pairSheet c l r n)) (λ s. encode F (withNode (pos node) s)) code h
 
     module _ {x y : Fields} (lh : x ≡ fieldsIn F left) (rh : y ≡ fieldsIn F right) {columns : ℕ} (width : columns ≡ widest x y) (none : k ≡ 0) where
       abbrev pairGiven : Result Nature
@@ -158,7 +102,7 @@ module _ (F : Form) where
       pair-nature-refused h =
           let l = decode F left in
           let r = decode F right in
-          nature-refuses (pairChecks l r) pairNature (λ n. ok (pairSheet c l r n)) (λ s. encode F (withNode (pos node) s)) (pair-numbered l r)
+          nature-refuses F (pairChecks l r) pairNature (λ n. ok (pairSheet c l r n)) (λ s. encode F (withNode (pos node) s)) (pair-numbered l r)
           (sym code ∙ none) (h ∙ ap (inWriting F) pair-given)
 
       pub pair-written :
@@ -169,9 +113,9 @@ module _ (F : Form) where
       pair-written adds fields g e =
           let l = decode F left in
           let r = decode F right in
-          nature-given (pairChecks l r) pairNature (λ n. ok (pairSheet c l r n)) (λ s. encode F (withNode (pos node) s)) (pair-numbered l r)
+          nature-given F (pairChecks l r) pairNature (λ n. ok (pairSheet c l r n)) (λ s. encode F (withNode (pos node) s)) (pair-numbered l r)
           (sym code ∙ none) (g ∙ ap (inWriting F) pair-given)
-          (λ n same. sheet-bytes (withNode (pos node) (pairSheet c l r n)) (rw (fields, adds, lh, rh) at e) same)
+          (λ n same. sheet-bytes F (withNode (pos node) (pairSheet c l r n)) (rw (fields, adds, lh, rh) at e) same)
 
   -- ---- Modulo, Log and Power
 
@@ -192,7 +136,7 @@ module _ (F : Form) where
     copy-refused h =
         let l = decode F left in
         let r = decode F right in
-        check-refuses (copyChecks c l r) copyNature copyRest (encode F) code h
+        check-refuses F (copyChecks c l r) copyNature copyRest (encode F) code h
 
     module _ {x : Fields} (lh : x ≡ fieldsIn F left) {columns : ℕ} (width : columns ≡ columnsOf x) (none : k ≡ 0) where
       abbrev copyGiven : Result Nature
@@ -207,7 +151,7 @@ module _ (F : Form) where
       copy-nature-refused h =
           let l = decode F left in
           let r = decode F right in
-          nature-refuses (copyChecks c l r) copyNature copyRest (encode F) (copy-numbered l r c) (sym code ∙ none)
+          nature-refuses F (copyChecks c l r) copyNature copyRest (encode F) (copy-numbered l r c) (sym code ∙ none)
           (h ∙ ap (inWriting F) copy-given)
 
       module _ {w : Written} (g : ok w ≡ inWriting F copyGiven) {m : ℕ} (last : m ≡ firstFailing (lastChecks (decode F left) (decode F right))) where
@@ -216,7 +160,7 @@ module _ (F : Form) where
         copy-nature-given f =
             let l = decode F left in
             let r = decode F right in
-            nature-given (copyChecks c l r) copyNature copyRest (encode F) (copy-numbered l r c) (sym code ∙ none)
+            nature-given F (copyChecks c l r) copyNature copyRest (encode F) (copy-numbered l r c) (sym code ∙ none)
             (g ∙ ap (inWriting F) copy-given) f
 
         pub copy-last-refused : (m ≡ 0 → ⊥) → refused m ≡ copyAnswer
@@ -235,7 +179,7 @@ module _ (F : Form) where
             let r = decode F right in
             copy-nature-given
             (λ n same.
-            sheet-bytes (copySheet l r n) (rw (fields, lh, rh) at e) same
+            sheet-bytes F (copySheet l r n) (rw (fields, lh, rh) at e) same
             ∙ sym
             (ap (λ (t : Result Sheet). andThen t (λ s. ok (encode F s)))
             (checked-passes (ok (copySheet l r n)) (lastChecks l r) (last-numbered l r) (sym last ∙ passes))))

@@ -1,21 +1,14 @@
 // The step of each family: from operands that passed 3 to 5, the derived sheet at the start of a buffer.
 use base::Component;
-use base::Head;
 use base::form::Form;
 use bytes::Put;
 use writer::Derived;
-use writer::Parts;
 ghost use mathlib.Core.Path.{_≡_};
-ghost use mathlib.Core.Bool.{cond};
-ghost use Prim.Native.Nat.{_≤_};
 ghost use lib.IntN.{pos};
-ghost use lib.ListN.{length, take};
+ghost use lib.ListN.{length};
 ghost use Rattle.numbers.specs.Result.{ok, andThen};
 ghost use Rattle.base.specs.Form.{formOf};
-ghost use Rattle.base.specs.Decode.{decode, groupsIn};
-ghost use Rattle.base.specs.Code.{headFields};
-ghost use Rattle.writer.specs.Room.{Room};
-ghost use Rattle.writer.specs.Written.{sheetFrom, partsIn};
+ghost use Rattle.base.specs.Decode.{decode};
 ghost use Rattle.base.specs.Encode.{encode};
 ghost use Rattle.base.specs.Components.{familyOf};
 ghost use Rattle.base.specs.declared.Family.the-variants as Fam;
@@ -23,17 +16,6 @@ ghost use Rattle.shape.specs.Fields.{withNode};
 ghost use Rattle.calls.specs.Derive.{deriveUnary, derivePair, deriveCopy};
 ghost use Rattle.lending.specs.Code.{Read, Lent, Buffers};
 ghost use Rattle.deliveries.specs.Code.{stepIn, Held};
-ghost use Rattle.steps.specs.Code.{refusalOf};
-
-// The refusal that a derived nature is.
-fn refusal(derived: Derived) -> Put
-    ensures { λ r. ⌜ r ≡ refusalOf derived ⌝ }
-{
-    match derived {
-        Derived::Refused(k) => Put::Refused(k),
-        Derived::Nature(_) => Put::Refused(0),
-    }
-}
 
 // Abs and Negative copy their operand but for its nature.
 pub fn step_unary(
@@ -84,28 +66,6 @@ pub fn step_unary(
     }
 }
 
-// The groups are right's where left is releasable, else left's.
-fn put_pair(
-    f: Form,
-    out: &mut [u8],
-    p: Parts,
-    first: &[u8],
-    second: &[u8],
-    h: Head,
-    node: i64,
-    left: &[u8],
-    right: &[u8],
-    switch: bool,
-) -> usize
-    requires { ⌜ Room (formOf f) p (now first) (now second) (now left) (now out) × Room (formOf f) p (now first) (now second) (now right) (now out) ⌝ }
-    ensures { λ r. ⌜ (r ≤ length (now (out .entry))) × (take r (now (out .exit)) ≡ sheetFrom (formOf f) (headFields h) node (cond switch (groupsIn (formOf f) (now (right .entry))) (groupsIn (formOf f) (now (left .entry)))) (partsIn p (now (first .entry)) (now (second .entry)))) ⌝ }
-{
-    if switch {
-        return writer::put_sheet(f, out, p, first, second, h, node, right);
-    }
-    writer::put_sheet(f, out, p, first, second, h, node, left)
-}
-
 // Add, Subtract, Multiply and Divide.
 pub fn step_pair(
     f: Form,
@@ -147,11 +107,11 @@ pub fn step_pair(
         second,
     );
     let Derived::Nature(p) = derived else {
-        return refusal(derived);
+        return writer::refusal(derived);
     };
     let more = shape::zero::adds_nullity(f, c, right);
     let h = shape::pair_head(more, l, r);
-    Put::At(put_pair(
+    Put::At(writer::put_pair(
         f,
         out,
         p,
@@ -205,7 +165,7 @@ pub fn step_copy(
         second,
     );
     let Derived::Nature(p) = derived else {
-        return refusal(derived);
+        return writer::refusal(derived);
     };
     let m = orders::last_code(f, left, right, l, r);
     if m != 0 {
@@ -213,5 +173,5 @@ pub fn step_copy(
     }
     let h = shape::copy_head(l, r);
     let node = base::node_at(f, left);
-    Put::At(put_pair(f, out, p, first, second, h, node, left, right, l.releasable))
+    Put::At(writer::put_pair(f, out, p, first, second, h, node, left, right, l.releasable))
 }

@@ -1,7 +1,7 @@
 -- From what a family's step answers to the step.
 --     was-read, right-was-read                                sheets that 3 to 5 do not refuse
 --     step-left-refused, step-right-refused                   a sheet that 3 to 5 refuse
---     step-alone, step-paired, step-copied                    each family's answer is the step
+--     step-alone, step-paired, step-copied, step-pooled       each family's answer is the step
 -- Assumes nothing.
 use mathlib.Core.Path.{_≡_, sym, ap, _∙_}
 use mathlib.Core.Bool.{Bool, true, false, cond}
@@ -21,7 +21,7 @@ use Rattle.base.specs.declared.Family.{Family}
 use Rattle.base.specs.declared.Family.the-variants as Fam
 use Rattle.base.proofs.Passed.{passed-all, read-ok, refused-code}
 use Rattle.shape.specs.Fields.{withNode, numbered}
-use Rattle.calls.specs.Derive.{deriveUnary, derivePair, deriveCopy, derive}
+use Rattle.calls.specs.Derive.{deriveUnary, derivePair, deriveCopy, derivePool, derive}
 use Rattle.calls.specs.Single.{stepSheet, step}
 use Rattle.lending.specs.Code.{Read}
 
@@ -72,3 +72,10 @@ module _ (F : Form) where
             ≡ step F c node left right
         unfolding step stepSheet derive numbered
         step-copied u = rw (left-read, sym family ∙ u, right-read (ap isUnary u))
+
+        pub step-pooled :
+            f ≡ Fam.Pool
+            → andThen (derivePool (F .categoryLimit) c (decode F left) (decode F right)) (λ s. ok (encode F (withNode (pos node) s)))
+            ≡ step F c node left right
+        unfolding step stepSheet derive numbered
+        step-pooled u = rw (left-read, sym family ∙ u, right-read (ap isUnary u))

@@ -1,4 +1,4 @@
-// The single step: `propagate_property` of the nine components, from the operands' bytes to the derived sheet's.
+// The single step: `propagate_property` of the ten components, from the operands' bytes to the derived sheet's.
 use base::Component;
 use base::Family;
 use base::form::Form;
@@ -70,6 +70,20 @@ pub fn step(
         Family::Copy => steps::step_copy(
             f,
             c,
+            left,
+            right,
+            first,
+            second,
+            us,
+            bs,
+            store,
+            hints,
+            out,
+        ),
+        Family::Pool => pooling::step_pool(
+            f,
+            c,
+            node,
             left,
             right,
             first,

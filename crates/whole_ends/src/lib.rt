@@ -1,4 +1,4 @@
-// The end rules of the nine components on whole numbers. An entry is [a, c] on the left and [d, f] on the right.
+// The end rules of the ten components on whole numbers. An entry is [a, c] on the left and [d, f] on the right.
 use base::Bound;
 use base::Component;
 use base::refusals;
@@ -8,9 +8,11 @@ use ends::Range;
 use numbers::Checked;
 use numbers::Integer;
 ghost use mathlib.Core.Path.{_≡_};
+ghost use Rattle.numbers.specs.Result.{ok};
 ghost use Rattle.numbers.specs.Kind.{whole, fitting, lesser, greater, least, greatest};
 ghost use Rattle.base.specs.Code.{wholeEnd, ofWhole};
 ghost use Rattle.ends.specs.Ends.{present, fromTwo, fromOne, absLower, absUpper, absEnds, corners, mulCorners, mulEnds, divCorners, divUpper, divLower, divPresent, divBy, divEnds, endRule};
+ghost use Rattle.ends.specs.declared.End.the-variants as End;
 ghost use Rattle.ends.specs.Code.{wholeSpan, endOf, endsOf, twoOf};
 ghost use Rattle.whole_ends.specs.Code.{wholePair};
 
@@ -297,6 +299,33 @@ fn div_ends(x: Range, y: Range) -> Ends
     div_by(a, c, lower, upper)
 }
 
+// ---- Pool: the lesser lower and the greater upper, left's on a tie
+
+fn pool_lower(x: Bound, y: Bound) -> Bound
+    ensures { λ r. ⌜ End.Is r ≡ endOf ofWhole (fromTwo (λ a d. ok (lesser whole a d)) (wholeEnd x) (wholeEnd y)) ⌝ }
+{
+    let Bound::Whole(a) = x else {
+        return Bound::Absent;
+    };
+    let Bound::Whole(d) = y else {
+        return Bound::Absent;
+    };
+    Bound::Whole(lesser(a, d))
+}
+
+// On a tie `greater` gives its second argument.
+fn pool_upper(x: Bound, y: Bound) -> Bound
+    ensures { λ r. ⌜ End.Is r ≡ endOf ofWhole (fromTwo (λ c f. ok (greater whole f c)) (wholeEnd x) (wholeEnd y)) ⌝ }
+{
+    let Bound::Whole(c) = x else {
+        return Bound::Absent;
+    };
+    let Bound::Whole(f) = y else {
+        return Bound::Absent;
+    };
+    Bound::Whole(greater(f, c))
+}
+
 // ---- the choice by component
 
 // Abs and Negative read x alone, Modulo y alone.
@@ -322,5 +351,9 @@ pub fn whole_end_rule(c: Component, x: Range, y: Range) -> Ends
         Component::Modulo => ends::both(End::Is(Bound::Whole(0)), last_end(right_upper)),
         Component::Log | Component::Power => ends::unknown(),
         Component::Negative => ends::both(neg_end(left_upper), neg_end(left_lower)),
+        Component::Pool => Ends::Are(Range {
+            lower: pool_lower(left_lower, right_lower),
+            upper: pool_upper(left_upper, right_upper),
+        }),
     }
 }

@@ -26,6 +26,7 @@ pub fn component(n: u32, text: &[u8])
         Component::LOG => io::write_all(STDOUT_FILENO, b"Log"),
         Component::POWER => io::write_all(STDOUT_FILENO, b"Power"),
         Component::NEGATIVE => io::write_all(STDOUT_FILENO, b"Negative"),
+        Component::POOL => io::write_all(STDOUT_FILENO, b"Pool"),
         _ => io::write_all(STDOUT_FILENO, b"no component"),
     }
     ;

@@ -3,6 +3,8 @@ use mathlib.Core.List.{List, [], _++_}
 use Prim.Native.Nat.{ℕ, _+_, _*_, _≤_}
 use lib.IntN.{ℤ}
 use lib.ListN.{length, take}
+use Rattle.bytes.specs.declared.Put.{Put}
+use Rattle.bytes.specs.declared.Put.the-variants as U
 use Rattle.numbers.specs.Result.{Result, ok, refused, andThen}
 use Rattle.base.specs.Form.{Form}
 use Rattle.base.specs.Sheet.{Group, Nature, absent, wholeRange, floatRange, wholeLists, boolLists, floatLists, Fields}
@@ -89,3 +91,8 @@ module _ (F : Form) where
   abbrev pub Within : ℕ → List ℕ → List ℕ → Derived → Type 0
   Within room first second (D.Nature p) = Placed room first second p
   Within room first second (D.Refused k) = Unit {0}
+
+-- the refusal that a derived nature is (0 where it is none)
+abbrev pub refusalOf : Derived → Put
+refusalOf (D.Nature p) = U.Refused 0
+refusalOf (D.Refused k) = U.Refused k

@@ -1,5 +1,6 @@
 // Derived natures in two buffers, and the sheet written from one.
 ghost use mathlib.Core.Path.{_≡_};
+ghost use mathlib.Core.Bool.{cond};
 ghost use Prim.Native.Nat.{_+_, _-_, _*_, _^_, _≤_, _<_};
 ghost use lib.ListN.{length, take, drop};
 ghost use Rattle.bytes.specs.Le.{leBytes};
@@ -8,13 +9,14 @@ ghost use Rattle.base.specs.Form.{formOf, place, fieldsEnd, groupCount, entries
 ghost use Rattle.base.specs.Decode.{asBits, groupsIn};
 ghost use Rattle.base.specs.Encode.{wholeBits, flag, mark, bitsOf, markBytes, valueBytes, flagBytes, presenceBytes, sizeBytes, gapBytes, frontBytes};
 ghost use Rattle.base.specs.Code.{signedOf, bitsIn, headFields};
-ghost use Rattle.writer.specs.Written.{sheetFrom, partsIn};
+ghost use Rattle.writer.specs.Written.{sheetFrom, partsIn, refusalOf};
 ghost use Rattle.writer.specs.Room.{Room};
 use base::Head;
 use base::OptionI64;
 use base::OptionU64;
 use base::form;
 use base::form::Form;
+use bytes::Put;
 
 // A derived nature whose two arrays stand at the start of two lent buffers: lowers and uppers of a range, or list numbers and values of categories.
 pub struct Parts {
@@ -237,4 +239,36 @@ pub fn put_sheet(
     let end = put_bytes(buf, end, source, arrays, form::GROUP_WIDTH * groups);
     let end = put_bytes(buf, end, first, 0, p.first);
     put_bytes(buf, end, second, 0, p.second)
+}
+
+// The groups are right's where left is releasable, else left's.
+pub fn put_pair(
+    f: Form,
+    out: &mut [u8],
+    p: Parts,
+    first: &[u8],
+    second: &[u8],
+    h: Head,
+    node: i64,
+    left: &[u8],
+    right: &[u8],
+    switch: bool,
+) -> usize
+    requires { ⌜ Room (formOf f) p (now first) (now second) (now left) (now out) × Room (formOf f) p (now first) (now second) (now right) (now out) ⌝ }
+    ensures { λ r. ⌜ (r ≤ length (now (out .entry))) × (take r (now (out .exit)) ≡ sheetFrom (formOf f) (headFields h) node (cond switch (groupsIn (formOf f) (now (right .entry))) (groupsIn (formOf f) (now (left .entry)))) (partsIn p (now (first .entry)) (now (second .entry)))) ⌝ }
+{
+    if switch {
+        return put_sheet(f, out, p, first, second, h, node, right);
+    }
+    put_sheet(f, out, p, first, second, h, node, left)
+}
+
+// The refusal that a derived nature is.
+pub fn refusal(derived: Derived) -> Put
+    ensures { λ r. ⌜ r ≡ refusalOf derived ⌝ }
+{
+    match derived {
+        Derived::Refused(k) => Put::Refused(k),
+        Derived::Nature(_) => Put::Refused(0),
+    }
 }

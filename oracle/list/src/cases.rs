@@ -1,5 +1,6 @@
 //! Named cases: document 01's worked examples, and inputs on which a reading
-//! of it can go wrong. Each says the answer that is expected.
+//! of it can go wrong. Each says the answer that is expected. Pool's stand by
+//! themselves, since the original has no answer to them.
 
 use crate::form::{Answer, Call};
 use crate::sheet::{Sheet, LONGEST};
@@ -89,6 +90,14 @@ pub fn all() -> Vec<Case> {
                 )
             }),
     );
+    cases
+}
+
+/// Pool's cases, for whoever answers it.
+pub fn pool() -> Vec<Case> {
+    let mut cases: Vec<Case> = POOLED.iter().map(Case::new).collect();
+    let (call, short) = (["W[1,2]", "W[-3,5]"], (NODE, 97));
+    cases.push(Case::at("Pool into 97 bytes of 98", 10, call, short, "27"));
     cases
 }
 
@@ -202,7 +211,8 @@ const BYTES: &[Row] = &[
 #[rustfmt::skip] // one case a line
 const ORDER: &[Row] = &[
     ("component 0", 0, "empty", "empty", "2"),
-    ("component 10", 10, "empty", "empty", "2"),
+    ("component 10", 10, "empty", "empty", "3"),
+    ("component 11", 11, "empty", "empty", "2"),
     ("component 200", 200, "W[1,2]", "W[1,2]", "2"),
     ("component 2^32 - 1", 4294967295, "W[1,2]", "W[1,2]", "2"),
     ("component 256 + 2", 258, "W[1,2]", "W[1,2]", "2"),
@@ -471,6 +481,45 @@ const FIELDS: &[Row] = &[
     ("Divide's nullity: Bool categories", 5, "W[1,2]", "B{0}", "absent nullity=0"),
     ("Divide's nullity: no entries", 5, "absent", "Frange", "absent nullity=0"),
     ("Divide's nullity: right absent", 5, "W[1,2]", "absent", "absent nullity=1"),
+];
+
+/// Pool (document 02, S-1).
+#[rustfmt::skip] // one case a line
+const POOLED: &[Row] = &[
+    ("the outer ends", 10, "W[1,2]", "W[-3,5]", "W[-3,5] rows=2 ordered=0 node=11"),
+    ("an absent upper", 10, "W[1,_]", "W[-3,5]", "W[-3,_]"),
+    ("absent lowers", 10, "W[_,4]", "W[_,9]", "W[_,9]"),
+    ("left's zero on a tie of uppers", 10, "F[-1.0,-0.0]", "F[-2.0,0.0]", "F[-2.0,-0.0]"),
+    ("the same turned round", 10, "F[-2.0,0.0]", "F[-1.0,-0.0]", "F[-2.0,0.0]"),
+    ("left's zero on a tie of lowers", 10, "F[-0.0,1.0]", "F[0.0,2.0]", "F[-0.0,2.0]"),
+    ("one column and two", 10, "W[1,2]", "W[1,2] columns=2", "12"),
+    ("one entry and one for each column", 10, "W[1,2] columns=2", "W[-3,1][2,_] columns=2", "W[-3,2][1,_] columns=2"),
+    ("left's categories and then right's", 10, "W{3,1,3}", "W{1,2}", "W{3,1,2}"),
+    ("Bool categories unite", 10, "B{1}", "B{0,1}", "B{1,0}"),
+    ("float categories on the right", 10, "W{1}", "F{1.0}", "19"),
+    ("float categories on the left", 10, "F{1.0}", "W{1}", "19"),
+    ("category kinds", 10, "W{1}", "B{1}", "21"),
+    ("no lists before other kinds", 10, "Wlists", "B{1}", "20"),
+    ("short lists are not padded", 10, "W{1}{2} columns=3", "W{5} columns=3", "W{1,5}{2,5} columns=3"),
+    ("a range beside categories", 10, "W[1,2]", "W{1}", "absent rows=2"),
+    ("the rows' sum leaves 64 bits", 10, "W[1,2] rows=9223372036854775807", "W[1,2]", "24"),
+    ("also below", 10, "W[1,2] rows=-9223372036854775808", "W[1,2] rows=-1", "24"),
+    ("also beside an absent nature", 10, "absent rows=9223372036854775807", "W[1,2]", "24"),
+    ("rows that just fit", 10, "W[1,2] rows=9223372036854775807", "W[1,2] rows=-9223372036854775808", "W[1,2] rows=-1"),
+    ("an absent row count", 10, "W[1,2] rows=9223372036854775807", "W[1,2] rows=_", "W[1,2] rows=_"),
+    ("18 before the rows' 24", 10, "W[1,2]*2 columns=3 rows=9223372036854775807", "W[1,2] columns=3", "18"),
+    ("17 before the rows' 24", 10, "W[1,2] rows=9223372036854775807", "F[1.0,2.0]", "17"),
+    ("130 categories", 10, "W{0..99}", "W{100..129}", "26"),
+    ("the rows' 24 before 26", 10, "W{0..99} rows=9223372036854775807", "W{100..129} rows=5", "24"),
+    ("128 categories", 10, "W{0..99}", "W{28..127}", "W{0..127}"),
+    ("two private logs", 10, "W[1,2] releasable=0 dataset=1 rows=96 c=1", "W[1,2] releasable=0 dataset=2 rows=40 c=3", "W[1,2] releasable=0 dataset=_ rows=136 c=3 ordered=0"),
+    ("marks of either, of both, or gone", 10, "W[1,2] nullity=1 notempty=0 sample=0.5 aggregator=9 dataset=4 dim=1", "W[1,2] releasable=0 groups=1:i1 dim=2", "W[1,2] nullity=1 notempty=1 releasable=0 sample=_ aggregator=0 dataset=_ dim=2 groups=1:i1"),
+    ("neither has rows", 10, "W[1,2] notempty=0", "W[1,2] notempty=0", "W[1,2] notempty=0 nullity=0 releasable=1"),
+    ("Pool: left's 7 before right's 6", 10, "W[1,2] releasable=0 sample=0.5", "W[1,2] releasable=0 aggregator=4", "7"),
+    ("Pool: 8 before 11", 10, "W[1,2] releasable=0 groups=1:i1 columns=_", "W[1,2] releasable=0", "8"),
+    ("Pool: right's columns absent", 10, "W[1,2]", "W[1,2] columns=_", "11"),
+    ("Pool: 12 before 14", 10, "W[1,2]", "W[1,2] columns=2 type=Float", "12"),
+    ("Pool: other types", 10, "W[1,2]", "W[1,2] type=Float", "14"),
 ];
 
 /// Cases that turn on the node or on the output's length.

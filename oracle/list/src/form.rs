@@ -3,6 +3,9 @@
 
 use std::fmt;
 
+/// The component that document 02 adds; the original has none such.
+pub const POOL: u32 = 10;
+
 /// Whose word an answer is.
 #[derive(Clone, Copy, Debug, PartialEq, Eq)]
 pub enum Mark {

@@ -4,19 +4,25 @@
 mod disturb;
 mod numbers;
 
-use crate::form::Call;
+use crate::form::{Call, POOL};
 use crate::random::Random;
 use crate::sheet::{Group, Key, Nature, Sheet};
 use numbers::Taste;
 
 pub use disturb::AIMS;
 
-/// A call with room for every result; the caller sets `out_len`.
+/// A call of the nine, or of a bad component, with room for every result; the
+/// caller sets `out_len`.
 pub fn call(random: &mut Random) -> Call {
     if random.percent(2) {
         return bad_component(random);
     }
     let component = random.between(1, 9) as u32;
+    call_of(random, component)
+}
+
+/// A call of a component, often disturbed towards some refusal.
+pub fn call_of(random: &mut Random, component: u32) -> Call {
     let aim = if random.percent(60) {
         random.pick(AIMS)
     } else {
@@ -68,10 +74,9 @@ pub fn call_towards(random: &mut Random, component: u32, aims: [u32; 2]) -> Call
     }
 }
 
-/// A call whose component is none of the nine.
+/// A call whose component is none of 1 to 10.
 pub fn bad_component(random: &mut Random) -> Call {
-    // Small numbers above 9 are left out: components may be added there.
-    let component = random.pick(&[0, 200, 255, 256 + 1, 65536 + 2, 1 << 31, u32::MAX]);
+    let component = random.pick(&[0, 11, 200, 255, 256 + 1, 65536 + 2, 1 << 31, u32::MAX]);
     let (left, right) = pair(random, 2);
     let short = random.percent(30);
     Call {
@@ -117,10 +122,15 @@ fn pair(random: &mut Random, component: u32) -> (Sheet, Sheet) {
     let columns = columns(random);
     let right_columns = match component {
         6..=8 if random.percent(15) => self::columns(random),
+        POOL => columns,
         _ if random.percent(25) => 1,
         _ => columns,
     };
-    let left_columns = if random.percent(10) { 1 } else { columns };
+    let left_columns = match component {
+        POOL => columns,
+        _ if random.percent(10) => 1,
+        _ => columns,
+    };
     let output = match component {
         6..=8 => left_columns,
         _ => left_columns.max(right_columns),
@@ -130,7 +140,11 @@ fn pair(random: &mut Random, component: u32) -> (Sheet, Sheet) {
     let (left_nature, right_nature) = natures(random, component, float_type, output);
     let mut left = fields(random, left_nature, left_type, left_columns);
     let mut right = fields(random, right_nature, right_type, right_columns);
-    agree(random, &mut left, &mut right);
+    if component == POOL {
+        share_groups(random, &left, &mut right);
+    } else {
+        agree(random, &mut left, &mut right);
+    }
     (left, right)
 }
 
@@ -190,6 +204,7 @@ fn kinds(random: &mut Random, component: u32, float_type: bool) -> (u8, u8) {
         7 if often => random.pick(&[(2, 2), (2, 2), (2, 2), (2, 2), (1, 1)]),
         8 if float_type && often => random.pick(&[(2, 2), (1, 1), (2, 0), (0, 5), (1, 3)]),
         8 if often => random.pick(&[(1, 1), (1, 1), (0, 1), (3, 1), (5, 1)]),
+        POOL if often => random.pick(&[(1, 1), (1, 1), (2, 2), (2, 2), (3, 3), (3, 3), (4, 4)]),
         1..=5 | 9 if often => {
             random.pick(&[(1, 1), (1, 1), (1, 1), (2, 2), (2, 2), (3, 3), (3, 3)])
         }
@@ -265,6 +280,14 @@ fn group(random: &mut Random) -> Group {
             1 => Key::Bool(value > 0),
             _ => Key::Str(value),
         },
+    }
+}
+
+/// All that Pool asks of two private operands: they may be of other datasets,
+/// and of other c-stabilities.
+fn share_groups(random: &mut Random, left: &Sheet, right: &mut Sheet) {
+    if !left.releasable && !right.releasable && !random.percent(10) {
+        right.groups = left.groups.clone();
     }
 }
 

@@ -1,11 +1,11 @@
 //! What a list holds, and whether it holds enough.
 
-use crate::form::{Call, Line, Mark};
+use crate::form::{Call, Line, Mark, POOL};
 use std::collections::{BTreeMap, HashMap, HashSet};
 use std::fmt::Write;
 
-pub const NAMES: [&str; 9] = [
-    "Abs", "Add", "Subtract", "Multiply", "Divide", "Modulo", "Log", "Power", "Negative",
+pub const NAMES: [&str; 10] = [
+    "Abs", "Add", "Subtract", "Multiply", "Divide", "Modulo", "Log", "Power", "Negative", "Pool",
 ];
 
 const LEAST_CALLS: usize = 3000;
@@ -32,6 +32,7 @@ pub fn reachable(component: u32) -> &'static [u32] {
         ],
         6 | 7 => &[3, 4, 5, 6, 7, 8, 11, 14, 15, 16, 17, 18, 27],
         8 => &[3, 4, 5, 6, 7, 8, 11, 14, 15, 16, 17, 18, 19, 20, 21, 22, 27],
+        POOL => &[3, 4, 5, 6, 7, 8, 11, 12, 14, 17, 18, 19, 20, 21, 24, 26, 27],
         _ => &[2],
     }
 }
@@ -63,7 +64,7 @@ pub struct Stats {
 
 /// The row of the table a component stands in.
 fn row(component: u32) -> u32 {
-    if (1..=9).contains(&component) {
+    if (1..=POOL).contains(&component) {
         component
     } else {
         0
@@ -144,7 +145,8 @@ impl Stats {
         ]
     }
 
-    /// Enough of every answer a component can give, and no other one.
+    /// Enough of every answer that the original's components can give, and no
+    /// answer that a component cannot.
     fn cell_wants(&self) -> Vec<Want> {
         let mut wants = Vec::new();
         for component in 0..=9 {
@@ -188,7 +190,7 @@ impl Stats {
             let _ = write!(text, "{code:>5}");
         }
         text.push_str("   all\n");
-        for component in (1..=9).chain([0]) {
+        for component in (1..=POOL).chain([0]) {
             let name = match component {
                 0 => "(bad)",
                 _ => NAMES[component as usize - 1],

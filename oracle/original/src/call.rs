@@ -6,7 +6,7 @@ use crate::messages::{self, BASE_BREAKS, OVERFLOWS};
 use crate::root::value;
 use crate::stand_ins::{proto, Component};
 use indexmap::map::IndexMap;
-use oracle_list::form::{hex, Answer, Mark};
+use oracle_list::form::{hex, Answer, Mark, POOL};
 use oracle_list::sheet::{Nature, Sheet, MOST_CATEGORIES};
 use std::cell::Cell;
 use std::panic::{catch_unwind, set_hook, take_hook, AssertUnwindSafe};
@@ -18,8 +18,8 @@ const LOG: u32 = 7;
 /// 25 is the original's own; this function adds 2 to 5 before, 26 and 27 after.
 ///
 /// # Panics
-/// If the original ends in a way that has no number: that is a fault of the
-/// oracle and must not pass for an answer.
+/// If the original ends in a way that has no number, and on two permitted
+/// sheets of Pool, which it has not: nothing of it must pass for an answer.
 pub fn answer(component: u32, node: u32, left: &[u8], right: &[u8], out_len: usize) -> Answer {
     match accept(component, node, left, right) {
         Err(refusal) => refusal,
@@ -46,7 +46,7 @@ fn refuse(code: u32, mark: Mark) -> Answer {
 
 /// The derived sheet before 26 and 27, or the refusal.
 fn accept(component: u32, node: u32, left: &[u8], right: &[u8]) -> Result<Sheet, Answer> {
-    if !(1..=9).contains(&component) {
+    if !(1..=POOL).contains(&component) {
         return Err(refuse(2, Mark::Added));
     }
     let decode = |bytes| Sheet::decode(bytes).map_err(|code| refuse(code, Mark::Added));
@@ -55,6 +55,15 @@ fn accept(component: u32, node: u32, left: &[u8], right: &[u8]) -> Result<Sheet,
         1 | 9 => None,
         _ => Some(decode(right)?),
     };
+    if component == POOL {
+        fail(
+            "the original has no Pool",
+            component,
+            node,
+            &left,
+            right.as_ref(),
+        );
+    }
     let word = run(component, node, &left, right.as_ref());
     if component == LOG && both_whole(&left, right.as_ref()) && past_the_base(&word) {
         return Err(refuse(15, Mark::Decided));

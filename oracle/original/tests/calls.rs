@@ -1,7 +1,7 @@
 //! The oracle as a whole: named cases, seeded calls, the decided difference.
 
 use oracle_list::cases;
-use oracle_list::form::{Call, Mark};
+use oracle_list::form::{Call, Mark, POOL};
 use oracle_list::generate::call;
 use oracle_list::random::Random;
 use oracle_list::sheet::Sheet;
@@ -35,8 +35,7 @@ fn seeded_calls_give_sheets() {
             assert_eq!(sheet.map(|s| s.encode()), Ok(line.answer.bytes.clone()));
             assert!(line.answer.bytes.len() <= 1284);
         } else {
-            let component = line.call.component.min(10);
-            assert!(reachable(component).contains(&code), "{}", line);
+            assert!(reachable(line.call.component).contains(&code), "{}", line);
             assert!(line.answer.bytes.is_empty());
         }
     }
@@ -82,6 +81,19 @@ fn log_is_the_originals_elsewhere() {
     assert_eq!(log("W[2,3]", "W[2,2]"), (14, Mark::Rust));
     assert_eq!(log("W[2,3] type=Float", "F[2.0,2.0]"), (17, Mark::Rust));
     assert_eq!(log("F[2.0,3.0] type=Float", "F[2.0,2.0]"), (0, Mark::Rust));
+}
+
+/// Pool's sheets are checked as all are; two that pass have no answer.
+#[test]
+fn pool_is_not_answered() {
+    let code = |left, right| answer(POOL, 1, &bytes(left), &bytes(right), 1284).code;
+    assert_eq!(code("W[1,2]", "empty"), 3);
+    assert_eq!(code("W[1,2] @25=1", "empty"), 4);
+    assert_eq!(code("W[1,2]", "W[2,1]"), 5);
+    let ended = std::panic::catch_unwind(|| code("W[1,2]", "W[1,2]"));
+    let payload = ended.expect_err("no answer");
+    let text = payload.downcast_ref::<String>().expect("a text");
+    assert!(text.starts_with("oracle failure: the original has no Pool; the call: 10 1 "));
 }
 
 /// 24 by a checked operation is the original's; by a panic it is added.

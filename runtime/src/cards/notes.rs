@@ -1,11 +1,12 @@
 //! What a reader should know of the ranges that a card shows.
 //!
-//! The rules behind the first three notes are the original's, ported as they are; docs/DIFFERENCES.md has them in full.
+//! The rules behind the notes on subtract, divide and left's marks are the original's, ported as they are, and pool's fields are as document 02 gives them; docs/DIFFERENCES.md has all of it in full.
 
 use super::{State, Walked};
 use crate::component::Component;
 use crate::nature::{Bound, Nature};
 use crate::sheet::Sheet;
+use std::collections::BTreeSet;
 
 pub(super) fn of(walked: &Walked) -> Vec<String> {
     let derived = |node: &usize| walked.state(*node) == State::Derived;
@@ -32,6 +33,7 @@ fn of_step(walked: &Walked, node: usize) -> Vec<String> {
     if marked_by_left(walked, node) {
         notes.push(format!("{name}: it has left's marks and so counts as releasable, while right is private."));
     }
+    notes.extend(of_pool(walked, node).into_iter().map(|text| format!("{name}: {text}.")));
     let sheet = walked.sheet(node);
     if any_entry(sheet, infinite) {
         notes.push(format!("{name}: a float end overflowed; a step that uses this node is refused with 5."));
@@ -64,6 +66,42 @@ fn marked_by_left(walked: &Walked, node: usize) -> bool {
     };
     let releasable = |node| walked.sheet(node).is_some_and(|sheet| sheet.releasable);
     step.component.copies_left() && releasable(step.left) && !releasable(step.right)
+}
+
+/// What pool does not keep account of: a log that stands in both operands, and the dataset that a row comes from.
+fn of_pool(walked: &Walked, node: usize) -> Vec<String> {
+    let step = walked.plan.plan.step_of(node).filter(|step| step.component == Component::Pool);
+    let (Some(step), Some(sheet)) = (step, walked.sheet(node)) else {
+        return Vec::new();
+    };
+    let mut notes = Vec::new();
+    let (left, right) = (leaves_below(walked, step.left), leaves_below(walked, step.right));
+    let private = |leaf: &usize| walked.sheet(*leaf).is_some_and(|sheet| !sheet.releasable);
+    for leaf in left.intersection(&right).copied().filter(private) {
+        let stability = sheet.c_stability;
+        notes.push(format!(
+            "both operands hold `{}`, so that one reading of it counts twice, while the c-stability stays {stability}",
+            walked.name(leaf)
+        ));
+    }
+    let stated = |node| walked.sheet(node).is_some_and(|sheet| sheet.dataset.is_some());
+    if !sheet.releasable && (stated(step.left) || stated(step.right)) {
+        notes.push(
+            "its dataset id is absent; a sum with another pooled log is not refused with 9 or 13, whatever their datasets were".to_string(),
+        );
+    }
+    notes
+}
+
+/// The leaves that a node stands on, itself if it is one. Operands are earlier nodes, so that one way down finds all.
+fn leaves_below(walked: &Walked, node: usize) -> BTreeSet<usize> {
+    let mut below = BTreeSet::from([node]);
+    for node in (0..=node).rev() {
+        if let Some(step) = walked.plan.plan.step_of(node).filter(|_| below.remove(&node)) {
+            below.extend([step.left, step.right]);
+        }
+    }
+    below
 }
 
 /// A single number, of which lower − lower and upper − upper are right.

@@ -1,4 +1,4 @@
-//! Causes of 24 and 26: the numbers that a component computes.
+//! Causes of 24 and 26: the numbers that a component computes, and the categories of its result.
 
 use super::Pair;
 use crate::component::Component;
@@ -61,6 +61,9 @@ fn whole_ends((lower, upper): (Bound, Bound)) -> WholeEnds {
 impl Pair<'_> {
     /// 24, of the first column or pair that meets it.
     pub(super) fn overflow(&self) -> Vec<String> {
+        if self.component == Component::Pool {
+            return self.rows_overflow().into_iter().collect();
+        }
         if let Nature::WholeCategories(_) = self.left.sheet.nature {
             return self.category_overflow().into_iter().collect();
         }
@@ -72,6 +75,13 @@ impl Pair<'_> {
             Some(format!("column {}: {}: {fault}", column + 1, self.column_of(left, right)))
         };
         (0..self.columns()).find_map(cause).into_iter().collect()
+    }
+
+    /// Pool computes no end and no category: its 24 is the rows' sum.
+    fn rows_overflow(&self) -> Option<String> {
+        let sum = operation(Component::Add, self.left.sheet.rows?.into(), self.right.sheet.rows?.into());
+        let fault = sum.fault()?;
+        Some(format!("{}: {fault}", self.both("rows", |s| show::optional(s.rows))))
     }
 
     /// Lists that meet: the number of columns, and the two lists of a column.
@@ -133,13 +143,16 @@ fn first_fault(component: Component, left: &[i64], right: &[i64]) -> Option<Stri
     None
 }
 
-/// Abs and negative drop an operand's repeats and keep those that arise; the others keep first occurrences.
+/// Abs and negative drop an operand's repeats and keep those that arise; the others keep first occurrences, pool those of both lists.
 fn count_results(component: Component, left: &[i64], right: &[i64]) -> usize {
     let own: HashSet<i64> = left.iter().copied().collect();
     if component.is_unary() {
         return own.len();
     }
     let others: HashSet<i64> = right.iter().copied().collect();
+    if component == Component::Pool {
+        return own.union(&others).count();
+    }
     let mut results = HashSet::new();
     for &a in &own {
         for &b in &others {

@@ -47,7 +47,7 @@ pub struct Call<'a> {
 /// ```
 pub fn of_single(refusal: Refusal, call: &Call) -> Vec<String> {
     let Some(component) = Component::from_number(call.component) else {
-        return vec![format!("component: {}, permitted 1 to 9", call.component)];
+        return vec![format!("component: {}, {}", call.component, Component::PERMITTED)];
     };
     let role = if component.is_unary() { "operand" } else { "left" };
     let mut sides = vec![Side::read(role, call.names[0], call.left)];
@@ -214,7 +214,7 @@ impl Pair<'_> {
                 vec![self.both("c-stabilities", |s| s.c_stability.to_string())]
             }
             Refusal::NoColumnCount => self.absent_columns(),
-            Refusal::ColumnsDiffer => vec![self.both("columns", |s| show::optional(s.columns))],
+            Refusal::ColumnsDiffer => vec![self.column_counts()],
             Refusal::RowsClash => self.rows(),
             Refusal::DataTypes => vec![self.data_types()],
             Refusal::BoundsUnsuited => self.unsuited(),
@@ -264,6 +264,14 @@ impl Pair<'_> {
     fn absent_columns(&self) -> Vec<String> {
         let read = if self.component.copies_left() { vec![self.left] } else { self.sides() };
         read.iter().filter(|side| side.sheet.columns.is_none()).map(|side| format!("{}: columns absent", side.label)).collect()
+    }
+
+    fn column_counts(&self) -> String {
+        let counts = self.both("columns", |s| show::optional(s.columns));
+        match self.component {
+            Component::Pool => format!("{counts}: pool needs equal counts"),
+            _ => counts,
+        }
     }
 
     fn rows(&self) -> Vec<String> {

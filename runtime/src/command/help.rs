@@ -74,7 +74,8 @@ leaf NAME : TYPE, ITEM, ...       TYPE is int, float, bool, str or unknown
   releasable, nullable, nonempty, ordered          default: none of them
 
 NAME = COMPONENT LEFT RIGHT       add, subtract, multiply, divide, modulo,
-                                  log (data, base), power (data, exponent)
+                                  log (data, base), power (data, exponent),
+                                  pool (left's rows, and then right's)
 NAME = COMPONENT OPERAND          abs, negative
 
 A plan has at most 32 nodes. Leaves are numbered first, from 0, then the steps.

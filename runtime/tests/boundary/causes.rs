@@ -7,6 +7,8 @@ use gate_runtime::{propagate_property, Refusal};
 use std::collections::BTreeSet;
 use std::fs;
 
+const POOL: u32 = 10;
+
 /// Makes the call; gives the number if it is refused, and checks that the cause is found.
 fn refused(component: u32, left: &[u8], right: &[u8], out_len: usize) -> Option<u32> {
     let mut out = vec![0; out_len];
@@ -30,7 +32,7 @@ fn accepted_has_no_cause(component: u32, left: &[u8], right: &[u8]) {
     none(Refusal::BadBound);
     none(Refusal::Aggregated);
     match component {
-        1..=4 | 9 => none(Refusal::WholeOverflow),
+        1..=4 | 9 | POOL => none(Refusal::WholeOverflow),
         5 => [Refusal::WholeOverflow, Refusal::DivideMayMeetZero].into_iter().for_each(none),
         _ => none(Refusal::Sampled),
     }
@@ -39,14 +41,19 @@ fn accepted_has_no_cause(component: u32, left: &[u8], right: &[u8]) {
 #[test]
 fn generated_calls_have_causes() {
     let mut draws = Draws::new(20_261_115);
-    let mut seen = BTreeSet::new();
+    let (mut seen, mut of_pool) = (BTreeSet::new(), BTreeSet::new());
     let mut accepted = 0;
     for _ in 0..60_000 {
         let (left, right) = (sheet(&mut draws).encode(), sheet(&mut draws).encode());
         let out_len = if draws.one_in(20) { 100 } else { SLOT };
         let component = component(&mut draws).number();
         match refused(component, &left, &right, out_len) {
-            Some(number) => drop(seen.insert(number)),
+            Some(number) => {
+                seen.insert(number);
+                if component == POOL {
+                    of_pool.insert(number);
+                }
+            }
             None => {
                 accepted += 1;
                 accepted_has_no_cause(component, &left, &right);
@@ -55,6 +62,7 @@ fn generated_calls_have_causes() {
     }
     let wanted: BTreeSet<u32> = (5..=27).filter(|number| *number != 25).collect();
     assert_eq!(seen, wanted);
+    assert_eq!(of_pool, BTreeSet::from([5, 6, 7, 8, 11, 12, 14, 17, 18, 19, 20, 21, 24, 26, 27]));
     assert!(accepted > 5_000, "{accepted} calls were accepted");
 }
 

@@ -82,7 +82,7 @@ fn float_entry(draws: &mut Draws) -> Ends<f64> {
 
 /// Lists of up to `most` members each, or one long list now and then.
 fn some_lists<T>(draws: &mut Draws, lists: usize, mut member: impl FnMut(&mut Draws) -> T) -> Vec<Vec<T>> {
-    let most = if lists == 1 && draws.one_in(8) { 60 } else { 5 };
+    let most = if lists == 1 && draws.one_in(8) { 120 } else { 5 };
     (0..lists).map(|_| (0..draws.below(most + 1)).map(|_| member(draws)).collect()).collect()
 }
 
@@ -123,7 +123,7 @@ pub fn sheet(draws: &mut Draws) -> Sheet {
     let data_type = draws.pick(&[DataType::Int, DataType::Int, DataType::Int, DataType::Float, DataType::Float, DataType::Str]);
     let mut sheet = Sheet::new(data_type, nature);
     sheet.columns = if draws.one_in(20) { None } else { Some(columns as i64) };
-    sheet.rows = if draws.one_in(5) { None } else { Some(draws.pick(&[1, 1, 1, 5])) };
+    sheet.rows = if draws.one_in(5) { None } else { Some(draws.pick(&[1, 1, 1, 1, 1, 5, 5, i64::MAX])) };
     sheet.dataset = if draws.one_in(3) { None } else { Some(draws.pick(&[1, 1, 2])) };
     sheet.releasable = !draws.one_in(3);
     sheet.nullity = draws.one_in(2);

@@ -27,6 +27,7 @@ const MODULO: u32 = 6;
 const LOG: u32 = 7;
 const POWER: u32 = 8;
 const NEGATIVE: u32 = 9;
+const POOL: u32 = 10;
 
 fn bytes(number: u32, component: u32, left: Vec<u8>, right: Vec<u8>, cause: &'static str) -> Case {
     Case { number, component, left, right, out_len: SLOT, cause }
@@ -62,7 +63,10 @@ fn sizes_and_fields() -> Vec<Case> {
     let longer = [plain_bytes.clone(), vec![0]].concat();
     vec![
         bytes(2, 0, Vec::new(), Vec::new(), "component: 0"),
+        bytes(2, 11, Vec::new(), Vec::new(), "component: 11, permitted 1 to 10"),
         bytes(2, 200, plain_bytes.clone(), plain_bytes.clone(), "component: 200"),
+        bytes(2, u32::MAX, plain_bytes.clone(), plain_bytes.clone(), "component: 4294967295"),
+        bytes(3, POOL, Vec::new(), Vec::new(), "left, length: 0 bytes, at least 80"),
         of(3, right(vec![0; 79]), "left, length: 79 bytes"),
         of(3, right(whole(&[[0, 1]; 17]).encode()), "left, lists: 17, at most 16"),
         of(3, right(listed(&[&[7; 129]]).encode()), "left, categories: 129, at most 128"),
@@ -185,8 +189,44 @@ fn arithmetic() -> Vec<Case> {
     ]
 }
 
+/// Every refusal that pool can give behind the sheets' own, in the order of its checks.
+fn pooled() -> Vec<Case> {
+    let floats = || plain(DataType::Int, Nature::FloatCategories(vec![vec![0.5]]));
+    let bools = || plain(DataType::Int, Nature::BoolCategories(vec![vec![true]]));
+    let mixed = but(float(&[[0.0, 1.0]]), |s| s.data_type = DataType::Int);
+    let summed = || but(private(one()), |s| s.aggregator = NonZeroU32::new(3));
+    let sampled = || but(private(one()), |s| s.sample = Some(0.5));
+    let grouped = || but(private(one()), |s| s.groups = vec![Group { partition: 7, key: Key::Int(1) }]);
+    let no_columns = |sheet| but(sheet, |s: &mut Sheet| s.columns = None);
+    let most = |sheet: Sheet| sheet.with_rows(i64::MAX);
+    let run = |from: i64, to: i64| listed(&[&(from..to).collect::<Vec<i64>>()]);
+    let sum = "rows: left 9223372036854775807, right 1: 9223372036854775807 + 1 = 9223372036854775808 leaves 64 signed bits";
+    vec![
+        case(5, POOL, one(), whole(&[[2, 1]]), "right, column 1: [+2, +1]: the lower end exceeds"),
+        case(6, POOL, summed(), sampled(), "left: aggregator 3, and it is not releasable"),
+        case(7, POOL, sampled(), summed(), "left: sample proportion 0.5, and it is not releasable"),
+        case(8, POOL, no_columns(grouped()), private(one()), "groups: left {7: int 1}, right {}"),
+        case(11, POOL, one(), no_columns(one()), "right: columns absent"),
+        case(12, POOL, one(), one().with_columns(2), "columns: left 1, right 2: pool needs equal counts"),
+        case(14, POOL, one(), float(&[[0.0, 1.0]]), "data types: left int, right float: they must be equal"),
+        case(17, POOL, most(one()), mixed, "ranges: left whole range [+1, +2], right float range [+0.0, +1.0]"),
+        case(18, POOL, most(whole(&[[1, 2]; 2]).with_columns(3)), one().with_columns(3), "left: 2 ranges, while the output has 3 columns"),
+        case(19, POOL, floats(), listed(&[&[1]]), "left: float categories {+0.5}"),
+        case(19, POOL, listed(&[&[1]]), floats(), "right: float categories {+0.5}"),
+        case(20, POOL, listed(&[]), bools(), "left: whole categories without lists"),
+        case(21, POOL, listed(&[&[1]]), bools(), "natures: left whole categories, right bool categories"),
+        case(24, POOL, most(one()), one(), sum),
+        case(24, POOL, most(plain(DataType::Int, Nature::Absent)), one(), sum),
+        case(24, POOL, most(run(0, 100)), run(100, 130), sum),
+        case(24, POOL, one().with_rows(i64::MIN), one().with_rows(-1), "(-9223372036854775808) + (-1) = -9223372036854775809 leaves"),
+        case(26, POOL, run(0, 100), run(100, 130), "categories: left 100, right 30: the result holds 130, at most 128"),
+        case(26, POOL, run(0, 60).with_columns(2), run(50, 70).with_columns(2), "the result holds 140 (70 + 70 by list)"),
+        Case { out_len: 97, ..case(27, POOL, one(), one(), "output: 97 bytes, the derived sheet has 98") },
+    ]
+}
+
 pub fn cases() -> Vec<Case> {
-    let groups = [sizes_and_fields(), bounds_and_marks(), shapes_and_types(), bounds_read(), natures(), arithmetic()];
+    let groups = [sizes_and_fields(), bounds_and_marks(), shapes_and_types(), bounds_read(), natures(), arithmetic(), pooled()];
     groups.into_iter().flatten().collect()
 }
 
@@ -236,6 +276,7 @@ pub fn malformed_plans() -> Vec<(Vec<u8>, &'static str)> {
         (plan(1, 2, &[]), "leaves: 2, permitted 1 to 1"),
         (plan(2, 1, &[]), "length: 4 bytes, the sizes call for 12"),
         (plan(2, 1, &[(0, 0)]), "node 1: component 0"),
+        (plan(2, 1, &[(11, 0)]), "node 1: component 11, permitted 1 to 10"),
         (plan(2, 1, &[(200, 0)]), "node 1: component 200"),
         (plan(2, 1, &[(ADD, 1)]), "node 1: operand 1 is no earlier node"),
         (plan(2, 1, &[(ADD, 65_536)]), "node 1: operand 1 is no earlier node"),

@@ -10,7 +10,7 @@ use std::fs;
 const RUNS: usize = 12_000;
 
 /// What mutations put in.
-const WORDS: [&str; 44] = [
+const WORDS: [&str; 45] = [
     "leaf",
     "=",
     ":",
@@ -51,6 +51,7 @@ const WORDS: [&str; 44] = [
     "divide",
     "subtract",
     "modulo",
+    "pool",
     "power",
     "log",
     "é冰\u{301}",
@@ -73,6 +74,8 @@ l = negative c
 m = add l c
 n = add e e
 o = divide a b
+p = pool a a
+q = pool f f
 ";
 
 /// Numbers from a seed (xorshift), so that every run makes the same ones.
@@ -163,7 +166,7 @@ fn drawn_plans_never_panic() {
         "whole [9223372036854775807, 9223372036854775807]",
     ];
     let marks = ["", ", releasable", ", releasable", ", dataset 1", ", sample 0.5", ", aggregator 2", ", columns 3", ", columns absent"];
-    let words = ["abs", "add", "subtract", "multiply", "divide", "modulo", "log", "power", "negative"];
+    let words = ["abs", "add", "subtract", "multiply", "divide", "modulo", "log", "power", "negative", "pool"];
     for _ in 0..RUNS / 4 {
         let (leaves, steps) = (1 + draws.below(4), draws.below(12));
         let mut text = String::new();
@@ -172,7 +175,7 @@ fn drawn_plans_never_panic() {
             text += &format!("leaf n{leaf} : {kind}, {}, rows 1{}\n", natures[draws.below(8)], marks[draws.below(8)]);
         }
         for node in leaves..leaves + steps {
-            let word = words[draws.below(9)];
+            let word = words[draws.below(words.len())];
             let (left, right) = (draws.below(node), draws.below(node));
             let second = if matches!(word, "abs" | "negative") { String::new() } else { format!(" n{right}") };
             text += &format!("n{node} = {word} n{left}{second}\n");

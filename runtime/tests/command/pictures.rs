@@ -48,6 +48,22 @@ fn json_says_what_the_card_says() {
 }
 
 #[test]
+fn json_and_picture_show_pool_by_its_word() {
+    let card = card("twin_plants");
+    let document = json_reader::read(&json::document(std::slice::from_ref(&card)).write()).unwrap();
+    let plan = &document.at("plans").list()[0];
+    let both = &plan.at("nodes").list()[5];
+    assert_eq!((both.at("component").text(), both.at("state").text()), ("pool", "derived"));
+    let operands: Vec<&str> = both.at("operands").list().iter().map(|node| node.number()).collect();
+    assert_eq!(operands, ["0", "1"]);
+    assert_eq!((both.at("sheet").at("rows").number(), both.at("sheet").at("dataset")), ("136", &json_reader::Value::Null));
+    let alarms = &plan.at("nodes").list()[8];
+    assert_eq!(alarms.at("sheet").at("nature").text(), "bool categories");
+    assert!(plan.at("notes").list()[0].text().starts_with("node 5 `both`: its dataset id is absent"));
+    assert!(picture(&card).contains(&"5: pool north south".to_string()));
+}
+
+#[test]
 fn json_keeps_every_number_exact() {
     let source = format!("leaf a : int, whole [{}, {}], rows 1, releasable\n", i64::MIN, i64::MAX)
         + "leaf b : float, float {nan, -inf, 0.1, -0.0}, sample nan\nleaf c : float, float [1e308, 1.7e308], rows 1, releasable\nd = add c c\n";

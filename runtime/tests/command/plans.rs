@@ -115,6 +115,8 @@ const STEP_MISTAKES: &[Mistake] = &[
     ("leaf a : int\nb = frob a", "2:5: expected a component, found `frob`", "components are abs, add"),
     ("leaf a : int\nb = Subtract a a\nc = add a", "2:5: expected a component, found `Subtract`", "did you mean `subtract`?"),
     ("leaf a : int\nb = add a", "2:10: expected an operand of add, which takes two, found the end of the line", ""),
+    ("leaf a : int\nb = pool a", "2:11: expected an operand of pool, which takes two, found the end of the line", ""),
+    ("leaf a : int\nb = pool a a a", "2:14: expected the end of the line, as pool takes two operands, found `a`", ""),
     ("leaf a : int\nb = abs a a", "2:11: expected the end of the line, as abs takes one operand, found `a`", ""),
     ("leaf a : int\nb = add a c", "2:11: expected a name of an earlier line, found `c`", ""),
     ("leaf a : int\nb = abs b", "2:9: expected a name of an earlier line, found `b`", "`b` is given in line 2"),
@@ -171,10 +173,17 @@ fn notes_name_ranges_that_need_care() {
         ("s = modulo a one", "node 4 `s`: it has left's marks and so counts as releasable, while right is private"),
         ("s = add f f", "node 4 `s`: a float end overflowed; a step that uses this node is refused with 5"),
         ("s = power a one", "node 4 `s`: it has left's marks"),
+        (
+            "s = pool one one",
+            "node 4 `s`: both operands hold `one`, so that one reading of it counts twice, while the c-stability stays 1.",
+        ),
+        ("t = abs one\nu = add t a\ns = pool u one", "node 6 `s`: both operands hold `one`, so that"),
     ] {
         assert!(card(step)[0].contains(note), "{step}: {:?}", card(step));
     }
-    for step in ["s = subtract a one", "s = divide a a", "s = modulo one a", "s = add a z", "s = multiply a z"] {
+    for step in
+        ["s = subtract a one", "s = divide a a", "s = modulo one a", "s = add a z", "s = multiply a z", "s = pool a a", "s = pool a one"]
+    {
         assert_eq!(card(step), [""; 0], "{step}");
     }
 }

@@ -54,7 +54,8 @@ fn the_format_help_shows_a_plan_and_every_item() {
     assert!(run.out.starts_with("-: accepted, 4 nodes"), "{}", run.out);
     let readme = fs::read_to_string(root().join("runtime/README.md")).unwrap();
     let words = "leaf int float bool str unknown whole range categories columns rows dataset dimensions sample stability aggregator \
-                 node groups releasable private nullable nonempty ordered abs add subtract multiply divide modulo log power negative";
+                 node groups releasable private nullable nonempty ordered abs add subtract multiply divide modulo log power negative \
+                 pool";
     for word in words.split(' ') {
         assert!(word == "private" || text.contains(word), "help: {word}");
         assert!(readme.contains(&format!("`{word}")), "README: {word}");

@@ -17,7 +17,7 @@ use Rattle.numbers.specs.Kind.{fitting, eqZ}
 use Rattle.utilities.specs.Noted.{Hinting}
 use Rattle.utilities.proofs.Begins.{begins-room}
 use Rattle.utilities.proofs.Hints.{hinting-none}
-use Rattle.base.specs.Form.{formOf}
+use Rattle.base.specs.Form.{formOf, wholeListsNature}
 use Rattle.base.proofs.Forms.{small}
 use Rattle.category_lists.specs.Categories.{product, ruleOf}
 use Rattle.category_lists.specs.Columnwise.{columnOf}
@@ -315,7 +315,7 @@ gather-requires : tie.Need-gather-requires Inv-loop2 μ-loop2 Inv-loop μ-loop I
 gather-requires c κs = (c .before .before .before .before .before .before .before .before .pre .1 .1 .0, c .before .before .product .inv .0 .columns .tally .bound)
 
 returns-2 : tie.Need-returns-2 Inv-loop2 μ-loop2 Inv-loop μ-loop Inv-product μ-product
-returns-2 c = (ended-gathered (ended (c .before .before)) (c .before .if1 .left) (c .gather .ensures), going-within (c .before .before .before .product .inv .0) (c .before .before .before .before .before .before .before .before .before .pre .1 .1 .0) (c .before .before .before .before .before .before .before .before .before .pre .1 .1 .1 .1) (c .gather .ensures))
+returns-2 c = (ended-gathered (ended (c .before .before)) (c .before .if1 .left) (c .gather .ensures), going-within (c .before .before .before .product .inv .0) wholeListsNature (c .before .before .before .before .before .before .before .before .before .pre .1 .1 .0) (c .before .before .before .before .before .before .before .before .before .pre .1 .1 .1 .1) (c .gather .ensures))
 
 pub products-into-spec : {M : Type 1} → statement M
 products-into-spec =

@@ -18,7 +18,7 @@ use Rattle.numbers.specs.Result.{ok}
 use Rattle.numbers.specs.Kind.{fitting}
 use Rattle.utilities.specs.Columns.{each}
 use Rattle.utilities.proofs.Begins.{begins-room}
-use Rattle.base.specs.Form.{formOf}
+use Rattle.base.specs.Form.{formOf, wholeListsNature}
 use Rattle.category_lists.specs.Categories.{ruleOf}
 use Rattle.category_lists.specs.Columnwise.{behind, columnOf}
 use Rattle.category_lists.proofs.Operands.{begun-length, column-few, answered}
@@ -213,7 +213,7 @@ gather-requires : tie.Need-gather-requires Inv-loop μ-loop Inv-product μ-produ
 gather-requires c κs = (c .before .before .before .before .before .before .before .pre .1 .0, c .before .before .product .inv .0 .columns .tally .bound)
 
 returns-2 : tie.Need-returns-2 Inv-loop μ-loop Inv-product μ-product
-returns-2 c = (ended-gathered (ended (c .before .before)) (c .before .if1 .left) (c .gather .ensures), going-within (c .before .before .before .product .inv .0) (c .before .before .before .before .before .before .before .before .pre .1 .0) (c .before .before .before .before .before .before .before .before .pre .1 .1 .1) (c .gather .ensures))
+returns-2 c = (ended-gathered (ended (c .before .before)) (c .before .if1 .left) (c .gather .ensures), going-within (c .before .before .before .product .inv .0) wholeListsNature (c .before .before .before .before .before .before .before .before .pre .1 .0) (c .before .before .before .before .before .before .before .before .pre .1 .1 .1) (c .gather .ensures))
 
 pub maps-into-spec : {M : Type 1} → statement M
 maps-into-spec =

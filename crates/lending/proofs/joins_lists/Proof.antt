@@ -6,7 +6,7 @@ use borrow.Author.Needs.{needs}
 use borrow.Author.Tests.{not-true, not-false}
 use Rattle.base.specs.Form.{formOf}
 use Rattle.base.specs.Components.{familyOf}
-use Rattle.lending.specs.Code.{holdsLists}
+use Rattle.lending.specs.Code.{holdsCategories}
 use Rattle.lending.proofs.Lending.{none-held}
 use Rattle.lending.proofs.joins_lists.Statement.{statement}
 use Rattle.lending.proofs.joins_lists.Tie as tie
@@ -14,23 +14,30 @@ use Rattle.lending.proofs.joins_lists.Tie as tie
 returns : tie.Need-returns
 returns c =
     let a = c .before .before .before .before .args in
-    none-held (familyOf (a .c)) (formOf (a .f)) (now (a .left)) (now (a .right)) (sym (c .before .holds-lists .ensures) ∙ not-true (c .before .holds-lists .result) (c .if1 .taken))
+    none-held (familyOf (a .c)) (formOf (a .f)) (now (a .left)) (now (a .right)) (sym (c .before .holds-categories .ensures) ∙ not-true (c .before .holds-categories .result) (c .if1 .taken))
 
--- left holds lists
-held : (c : tie.Else1) → let a = c .before .before .before .before .args in holdsLists (formOf (a .f)) (now (a .left)) ≡ true
-held c = sym (c .before .holds-lists .ensures) ∙ not-false (c .before .holds-lists .result) (c .if1 .left)
+-- left holds categories
+held : (c : tie.Else1) → let a = c .before .before .before .before .args in holdsCategories (formOf (a .f)) (now (a .left)) ≡ true
+held c = sym (c .before .holds-categories .ensures) ∙ not-false (c .before .holds-categories .result) (c .if1 .left)
 
 returns-2 : tie.Need-returns-2
-returns-2 c = let m = c .before .before in rw (sym (m .family .ensures) ∙ c .enum-told .given .1, held (m .before))
+returns-2 c =
+    let t = c .before in
+    rw (sym (t .before .before .family .ensures) ∙ t .enum-told .given .1) (c .holds-lists .ensures)
 
 returns-3 : tie.Need-returns-3
 returns-3 c =
-    let t = c .before in
-    let m = t .before .before in
-    rw (sym (m .family .ensures) ∙ t .enum-told2 .given .1, held (m .before)) (c .holds-lists2 .ensures)
+    let t = c .before .before in
+    rw (sym (t .before .before .family .ensures) ∙ t .enum-told2 .given .1, ← c .before .holds-lists2 .ensures, ← c .holds-lists3 .ensures)
 
 returns-4 : tie.Need-returns-4
 returns-4 c = let m = c .before .before in rw (sym (m .family .ensures) ∙ c .enum-told3 .given .1)
+
+returns-5 : tie.Need-returns-5
+returns-5 c =
+    let t = c .before in
+    let m = t .before .before in
+    rw (sym (m .family .ensures) ∙ t .enum-told4 .given .1, held (m .before)) (c .holds-categories2 .ensures)
 
 pub joins-lists-spec : {M : Type 1} → statement M
 joins-lists-spec =
@@ -40,9 +47,14 @@ joins-lists-spec =
     returns
     (λ c κs. search needs)
     (λ c. search needs)
-    (λ c. search needs)
     (λ c κs. search needs)
     (λ c. search needs)
+    (λ c κs. search needs)
+    (λ c κs. search needs)
+    (λ c. search needs)
+    (λ c. search needs)
+    (λ c κs. search needs)
     returns-2
     returns-3
-    returns-4)
+    returns-4
+    returns-5)

@@ -10,6 +10,7 @@ use Rattle.base.specs.Decode.{natureIn}
 use Rattle.base.proofs.Forms.{laid}
 use Rattle.writer.specs.Written.{inWriting}
 use Rattle.natures.specs.Code.{Lists}
+use Rattle.calls.specs.Natures.{listsPair}
 use Rattle.lending.specs.Code.{arraysRoom}
 use Rattle.lending.proofs.Lending.{stands, range-room, ends-room, wider}
 use Rattle.natures.proofs.Sorted.{number-of, absent-left, absent-right, range-with-lists, lists-with-range, unequal-ranges, both-ranges, both-lists}
@@ -37,7 +38,7 @@ returns : tie.Need-returns
 returns c =
     let a = c .before .before .before .before .before .before .before .before .before .args in
     let F = formOf (a .f) in
-    let e = absent-left (F .categoryLimit) (a .c) (a .data-type) (a .columns) (natureIn F (now (a .left))) (natureIn F (now (a .right))) (left-is (c .before .before) ∙ c .before .if1 .taken) in
+    let e = absent-left (a .c) (a .data-type) (a .columns) (listsPair (F .categoryLimit) (a .c) (a .data-type) (a .columns)) (natureIn F (now (a .left))) (natureIn F (now (a .right))) (left-is (c .before .before) ∙ c .before .if1 .taken) in
     let n = c .nothing-stated .ensures (arraysRoom (familyOf (a .c)) F (now (a .left)) (now (a .right))) (now (a .first)) (now (a .second)) in
     (n .0 ∙ ap (inWriting F) (sym e), n .1)
 
@@ -45,7 +46,7 @@ returns-2 : tie.Need-returns-2
 returns-2 c =
     let a = c .before .before .before .before .before .before .before .before .before .before .args in
     let F = formOf (a .f) in
-    let e = absent-right (F .categoryLimit) (a .c) (a .data-type) (a .columns) (natureIn F (now (a .left))) (natureIn F (now (a .right))) (right-is (c .before .before .before) ∙ c .before .if2 .taken) in
+    let e = absent-right (a .c) (a .data-type) (a .columns) (listsPair (F .categoryLimit) (a .c) (a .data-type) (a .columns)) (natureIn F (now (a .left))) (natureIn F (now (a .right))) (right-is (c .before .before .before) ∙ c .before .if2 .taken) in
     let n = c .nothing-stated2 .ensures (arraysRoom (familyOf (a .c)) F (now (a .left)) (now (a .right))) (now (a .first)) (now (a .second)) in
     (n .0 ∙ ap (inWriting F) (sym e), n .1)
 
@@ -58,7 +59,7 @@ returns-3 c =
     let q = right-is k in
     let x = ap isRangeNature p ∙ sym (c .before .before .before .before .is-range .ensures) ∙ c .before .before .before .if3 .taken in
     let y = ap isRangeNature q ∙ sym (c .before .before .is-range2 .ensures) ∙ c .before .if4 .taken in
-    let e = unequal-ranges (F .categoryLimit) (a .c) (a .data-type) (a .columns) (natureIn F (now (a .left))) (natureIn F (now (a .right))) x y (λ same. c .if5 .taken (sym p ∙ same ∙ q)) in
+    let e = unequal-ranges (a .c) (a .data-type) (a .columns) (listsPair (F .categoryLimit) (a .c) (a .data-type) (a .columns)) (natureIn F (now (a .left))) (natureIn F (now (a .right))) x y (λ same. c .if5 .taken (sym p ∙ same ∙ q)) in
     (ap (inWriting F) (sym e), tt)
 
 range-pair-requires : tie.Need-range-pair-requires
@@ -83,7 +84,7 @@ returns-4 c =
     let k = d .before .before .before .before .before .before .before .before .before .before in
     let x = k .before .nature-of .ensures in
     let range = rw x at (sym (d .before .before .before .before .before .before .before .is-range .ensures) ∙ d .before .before .before .before .before .before .if3 .taken) in
-    let e = both-ranges (F .categoryLimit) (a .c) (a .data-type) (a .columns) F (now (a .left)) (now (a .right)) range (sym x ∙ d .before .before .before .if5 .left ∙ k .nature-of2 .ensures) in
+    let e = both-ranges (a .c) (a .data-type) (a .columns) (listsPair (F .categoryLimit) (a .c) (a .data-type) (a .columns)) F (now (a .left)) (now (a .right)) range (sym x ∙ d .before .before .before .if5 .left ∙ k .nature-of2 .ensures) in
     ((rw x at (d .range-pair .ensures .0)) ∙ ap (inWriting F) (sym e), wider F _ _ (ends-room (laid (a .f)) (familyOf (a .c)) (now (a .left)) (now (a .right))) (d .range-pair .result) (d .range-pair .ensures .1))
 
 returns-5 : tie.Need-returns-5
@@ -93,7 +94,7 @@ returns-5 c =
     let k = c .before .before .before .before .before .before .before in
     let x = ap isRangeNature (left-is k) ∙ sym (c .before .before .before .before .is-range .ensures) ∙ c .before .before .before .if3 .taken in
     let y = ap isRangeNature (right-is k) ∙ sym (c .before .before .is-range2 .ensures) ∙ c .before .if4 .left in
-    let e = range-with-lists (F .categoryLimit) (a .c) (a .data-type) (a .columns) (natureIn F (now (a .left))) (natureIn F (now (a .right))) x y in
+    let e = range-with-lists (a .c) (a .data-type) (a .columns) (listsPair (F .categoryLimit) (a .c) (a .data-type) (a .columns)) (natureIn F (now (a .left))) (natureIn F (now (a .right))) x y in
     let n = c .nothing-stated3 .ensures (arraysRoom (familyOf (a .c)) F (now (a .left)) (now (a .right))) (now (a .first)) (now (a .second)) in
     (n .0 ∙ ap (inWriting F) (sym e), n .1)
 
@@ -104,7 +105,7 @@ returns-6 c =
     let k = c .before .before .before .before .before .before .before in
     let x = ap isRangeNature (left-is k) ∙ sym (c .before .before .before .before .is-range .ensures) ∙ c .before .before .before .if3 .left in
     let y = ap isRangeNature (right-is k) ∙ sym (c .before .before .is-range3 .ensures) ∙ c .before .if6 .taken in
-    let e = lists-with-range (F .categoryLimit) (a .c) (a .data-type) (a .columns) (natureIn F (now (a .left))) (natureIn F (now (a .right))) x y in
+    let e = lists-with-range (a .c) (a .data-type) (a .columns) (listsPair (F .categoryLimit) (a .c) (a .data-type) (a .columns)) (natureIn F (now (a .left))) (natureIn F (now (a .right))) x y in
     let n = c .nothing-stated4 .ensures (arraysRoom (familyOf (a .c)) F (now (a .left)) (now (a .right))) (now (a .first)) (now (a .second)) in
     (n .0 ∙ ap (inWriting F) (sym e), n .1)
 
@@ -142,7 +143,7 @@ returns-7 c =
     let p = left-is (w .before .before .before .before .before .before) in
     let q = right-is (w .before .before .before .before .before .before) in
     let e =
-    both-lists (F .categoryLimit) (a .c) (a .data-type) (a .columns) (natureIn F (now (a .left))) (natureIn F (now (a .right))) (λ z. w .before .before .before .before .before .if1 .left (sym p ∙ z)) (ap isRangeNature p ∙ sym (w .before .before .before .is-range .ensures) ∙ w .before .before .if3 .left)
+    both-lists (a .c) (a .data-type) (a .columns) (listsPair (F .categoryLimit) (a .c) (a .data-type) (a .columns)) (natureIn F (now (a .left))) (natureIn F (now (a .right))) (λ z. w .before .before .before .before .before .if1 .left (sym p ∙ z)) (ap isRangeNature p ∙ sym (w .before .before .before .is-range .ensures) ∙ w .before .before .if3 .left)
     (λ z. w .before .before .before .before .if2 .left (sym q ∙ z))
     (ap isRangeNature q ∙ sym (w .before .is-range3 .ensures) ∙ w .if6 .left) in
     (d .propagate-binary-categorical-nature .ensures .0 ∙ ap (inWriting F) (sym e), d .propagate-binary-categorical-nature .ensures .1)

@@ -2,12 +2,15 @@
 use mathlib.Core.Path.{_≡_, sym, ap, _∙_}
 use denote.Ref.{now}
 use borrow.Author.Needs.{needs}
+use Rattle.numbers.specs.Result.{firstFailing}
 use Rattle.base.specs.Form.{formOf, byteAt, natureAt}
+use Rattle.base.specs.Decode.{natureIn}
 use Rattle.base.specs.Components.{familyOf}
 use Rattle.writer.specs.Written.{inWriting}
+use Rattle.calls.specs.Natures.{listChecks}
 use Rattle.natures.specs.Code.{hasRule}
 use Rattle.lending.proofs.Lending.{stands, alone, used, lists-room}
-use Rattle.natures.proofs.Listing.{Fine, fine, is-whole, fine-listed, alone-fails, bool-alone, alone-ruled}
+use Rattle.natures.proofs.Listing.{Fine, code-is, fine, is-whole, fine-listed, alone-fails, bool-alone, alone-ruled}
 use Rattle.natures.proofs.propagate_unary_categorical_nature.Statement.{statement}
 use Rattle.natures.proofs.propagate_unary_categorical_nature.Tie as tie
 
@@ -17,44 +20,50 @@ nature-of-requires c κs = stands (c .before .before .before .before .pre .0 .0 
 sizes-at-requires : tie.Need-sizes-at-requires
 sizes-at-requires c κs = stands (c .before .before .before .before .before .pre .0 .0 .read)
 
+-- the code is that of the nature
+code : (c : tie.After-lists-code) → let a = c .before .before .before .before .before .before .before .args in c .lists-code .result ≡ firstFailing (listChecks (natureIn (formOf (a .f)) (now (a .s))))
+code c = code-is (c .before .before .before .before .before .before .before .pre .0 .0) (c .before .sizes-at .ensures .lists) (rw (c .before .before .nature-of .ensures) at (c .lists-code .ensures))
+
 returns : tie.Need-returns
 returns c =
-    let b = c .before .before .before .before .before .before .before .before in
-    let a = b .args in
+    let a = c .before .before .before .before .before .before .before .before .args in
     let F = formOf (a .f) in
-    let e = alone-fails (F .categoryLimit) (a .c) (a .data-type) (a .columns) (b .pre .0 .0) (c .before .before .sizes-at .ensures .lists) (rw (c .before .before .before .nature-of .ensures) at (c .before .lists-code .ensures)) (c .if1 .taken) in
+    let e = alone-fails (F .categoryLimit) (a .c) (a .data-type) (a .columns) F (now (a .s)) (code (c .before)) (c .if1 .taken) in
     (ap (inWriting F) (sym e), tt)
 
 -- 19 and 20 have passed
-passes : (c : tie.Else1) → Fine (formOf (c .before .before .before .before .before .before .before .before .args .f)) (now (c .before .before .before .before .before .before .before .before .args .s))
-passes c = fine (c .before .before .before .before .before .before .before .before .pre .0 .0) (c .before .before .sizes-at .ensures .lists) (rw (c .before .before .before .nature-of .ensures) at (c .before .lists-code .ensures)) (c .if1 .left)
+none : (c : tie.Else1) → let a = c .before .before .before .before .before .before .before .before .args in firstFailing (listChecks (natureIn (formOf (a .f)) (now (a .s)))) ≡ 0
+none c = sym (code (c .before)) ∙ c .if1 .left
 
-whole : (c : tie.Else2) → byteAt (formOf (c .before .before .before .before .before .before .before .before .before .args .f)) natureAt (now (c .before .before .before .before .before .before .before .before .before .args .s)) ≡ 3
+passes : (c : tie.Else1) → let a = c .before .before .before .before .before .before .before .before .args in Fine (formOf (a .f)) (now (a .s))
+passes c = fine (c .before .before .before .before .before .before .before .before .pre .0 .0) (none c)
+
+whole : (c : tie.Else2) → let a = c .before .before .before .before .before .before .before .before .before .args in byteAt (formOf (a .f)) natureAt (now (a .s)) ≡ 3
 whole c = is-whole (passes (c .before)) (λ e. c .if2 .left (c .before .before .before .before .nature-of .ensures ∙ e))
 
 returns-2 : tie.Need-returns-2
 returns-2 c =
     let a = c .before .before .before .before .before .before .before .before .before .args in
     let F = formOf (a .f) in
-    let e = bool-alone (F .categoryLimit) (a .c) (a .data-type) (a .columns) (passes (c .before)) (sym (c .before .before .before .before .nature-of .ensures) ∙ c .if2 .taken) in
+    let e = bool-alone (F .categoryLimit) (a .c) (a .data-type) (a .columns) F (now (a .s)) (none (c .before)) (sym (c .before .before .before .before .nature-of .ensures) ∙ c .if2 .taken) in
     (ap (inWriting F) (sym e), tt)
 
 lists-alone-requires : tie.Need-lists-alone-requires
 lists-alone-requires c κs =
     let b = c .before .before .before .before .before .before .before .before .before .before .before .before .before .before in
     let ready = b .pre .0 .1 in
-    let l = fine-listed (passes (c .before .before .before .before .before .before)) (whole (c .before .before .before .before .before)) in
-    ((l, ready .some-column, ready .within, b .pre .0 .2), used (alone (b .pre .0 .2) l) (b .pre .1))
+    let l = fine-listed (passes (c .before .before .before .before .before .before)) in
+    ((l, ready .some-column, ready .within, b .pre .0 .2), used (alone (b .pre .0 .2) l (whole (c .before .before .before .before .before))) (b .pre .1))
 
 returns-3 : tie.Need-returns-3
 returns-3 c =
     let b = c .before .before .before .before .before .before .before .before .before .before .before .before .before .before .before .before .before .before .before .before .before .before .before in
     let a = b .args in
     let F = formOf (a .f) in
-    let x = passes (c .before .before .before .before .before .before .before .before .before .before .before .before .before .before .before) in
     let is = whole (c .before .before .before .before .before .before .before .before .before .before .before .before .before .before) in
-    let e = alone-ruled (F .categoryLimit) (a .c) (a .data-type) (a .columns) x is (ap hasRule (b .pre .0 .2)) in
-    (c .before .before .before .before .before .before .before .before .lists-alone .ensures .0 ∙ ap (inWriting F) (sym e), rw (lists-room (familyOf (a .c)) F (now (a .s)) (now (a .s)) (alone (b .pre .0 .2) (fine-listed x is))) (c .before .before .before .before .before .before .before .before .lists-alone .ensures .1))
+    let call = c .before .before .before .before .before .before .before .before .lists-alone .ensures in
+    let e = alone-ruled (F .categoryLimit) (a .c) (a .data-type) (a .columns) F (now (a .s)) (none (c .before .before .before .before .before .before .before .before .before .before .before .before .before .before .before)) is (ap hasRule (b .pre .0 .2)) in
+    (call .0 ∙ ap (inWriting F) (sym e), rw (lists-room (familyOf (a .c)) F (now (a .s)) (now (a .s)) (alone (b .pre .0 .2) (fine-listed (passes (c .before .before .before .before .before .before .before .before .before .before .before .before .before .before .before))) is)) (call .1))
 
 pub propagate-unary-categorical-nature-spec : {M : Type 1} → statement M
 propagate-unary-categorical-nature-spec =

@@ -46,6 +46,7 @@ bound-code-spec =
     (λ c. search needs)
     (λ c κs. c .before .before .before .before .pre .1)
     (λ c. search needs)
+    (λ c. search needs)
     (λ c. rw (c .enum-told .given .1))
     (λ c. rw (c .enum-told2 .given .1))
     (λ c. rw (c .enum-told3 .given .1))
@@ -54,4 +55,5 @@ bound-code-spec =
     modulo
     log
     power
-    (λ c. rw (c .enum-told9 .given .1)))
+    (λ c. rw (c .enum-told9 .given .1))
+    (λ c. rw (c .enum-told10 .given .1)))

@@ -13,7 +13,7 @@ use borrow.Author.Needs.{needs}
 use borrow.Author.Tests.{not-true, not-false}
 use Rattle.base.specs.Form.{narrow}
 use Rattle.calls.specs.Single.{outcome}
-use Rattle.lending.specs.Code.{holdsLists}
+use Rattle.lending.specs.Code.{holdsCategories}
 use Rattle.plan_form.specs.Form.{nodeCount, leafCount, leftOf}
 use Rattle.calls.specs.Walk.{walk, sheetIn}
 use Rattle.plan_leaves.specs.Code.{nodesFrom, Steppable}
@@ -84,7 +84,7 @@ module _ (c : tie.In-loop Inv-loop μ-loop) where
       steppable (head .loop .k) (record { formed = w .formed; room = omega (arith, w .room) }) (i .0) further
 
 lent : (c : tie.Joined1 Inv-loop μ-loop) → let t = c .before .before in
-    holdsLists narrow (sheetIn narrow (leftOf (plan t) (t .loop .k)) (t .loop .work)) ≡ true
+    holdsCategories narrow (sheetIn narrow (leftOf (plan t) (t .loop .k)) (t .loop .work)) ≡ true
     → Large narrow (t .loop .us) (t .loop .bs) (t .loop .store) (t .loop .hints) (t .loop .first) (t .loop .second) (t .loop .scratch)
 lent c h =
     let t = c .before .before in

@@ -6,7 +6,7 @@ use native.Mathlib.Omega.{arith}
 use denote.Ref.{now}
 use borrow.Author.Needs.{needs}
 use Rattle.base.specs.Form.{narrow}
-use Rattle.lending.specs.Code.{holdsLists}
+use Rattle.lending.specs.Code.{holdsCategories}
 use Rattle.plan_form.specs.Form.{leftOf}
 use Rattle.calls.specs.Walk.{slot}
 use Rattle.plan_leaves.proofs.Parts.{slot-holds}
@@ -20,8 +20,8 @@ returns c =
     let a = start .args in
     let s = start .pre in
     let work = now (a .work) in
-    (rw add-sub-cancel-left at (c .holds-lists .ensures))
-    ∙ ap (λ (j : ℕ). holdsLists narrow (slot narrow j work)) (left .left-operand .ensures)
+    (rw add-sub-cancel-left at (c .holds-categories .ensures))
+    ∙ ap (λ (j : ℕ). holdsCategories narrow (slot narrow j work)) (left .left-operand .ensures)
     ∙ slot-holds work (leftOf (now (a .plan)) (a .k)) (omega (arith, s .left, s .room))
 
 pub may-use-stores-spec : {M : Type 1} → statement M

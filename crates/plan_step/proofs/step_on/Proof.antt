@@ -11,7 +11,7 @@ use Rattle.base.specs.Form.{narrow}
 use Rattle.base.specs.Components.{componentOf, familyOf}
 use Rattle.base.specs.declared.Family.{Family}
 use Rattle.calls.specs.Single.{step, delivery}
-use Rattle.lending.specs.Code.{holdsLists}
+use Rattle.lending.specs.Code.{holdsCategories}
 use Rattle.plan_form.specs.Form.{leftOf, rightOf}
 use Rattle.calls.specs.Walk.{slotAt, sheetIn}
 use Rattle.plan_leaves.proofs.Parts.{part-lent, part-back}
@@ -58,7 +58,7 @@ step-requires : tie.Need-step-requires
 step-requires c κs =
     let e = c .before .before .before .before .before .before .before .before .before in
     let s = start e in
-    step-lent (s .pre .0 .1) (λ j. s .pre .1 (subst (λ (l : List ℕ). holdsLists narrow l ≡ true) (left-sheet e) (left-joins (family e) narrow (left-part e) (right-part e) j)))
+    step-lent (s .pre .0 .1) (λ j. s .pre .1 (subst (λ (l : List ℕ). holdsCategories narrow l ≡ true) (left-sheet e) (left-joins (family e) narrow (left-part e) (right-part e) j)))
 
 -- its own slot begins within the work buffer
 sub-deliver-sheet : tie.Need-sub-deliver-sheet

@@ -33,6 +33,7 @@ by-number C.Modulo type x y = other (eqb type intType) (endRule whole C.Modulo x
 by-number C.Log type x y = refl
 by-number C.Power type x y = refl
 by-number C.Negative type x y = refl
+by-number C.Pool type x y = refl
 
 returns : tie.Need-returns
 unfolding columnEnds

@@ -8,7 +8,8 @@ use Rattle.base.specs.Form.{formOf}
 use Rattle.base.specs.Components.{isUnary}
 use Rattle.lending.proofs.Lending.{stands}
 use Rattle.steps.proofs.Passing.{copy-columns, reached}
-use Rattle.steps.proofs.Delivered.{room, copy-refused, copy-nature-refused, copy-last-refused, copy-written}
+use Rattle.deliveries.proofs.Answers.{room}
+use Rattle.steps.proofs.Delivered.{copy-refused, copy-nature-refused, copy-last-refused, copy-written}
 use Rattle.steps.proofs.step_copy.Statement.{statement}
 use Rattle.steps.proofs.step_copy.Tie as tie
 
@@ -49,7 +50,8 @@ returns-2 c =
     let nature = c .before .before .before .before .before .before .before .before .before .before .before .before in
     let width = nature .before .before .before .before .before .before .before in
     let code = width .before .before in
-    let a = code .before .before .before .before .before .before .before .before .before .args in
+    let start = code .before .before .before .before .before .before .before .before .before in
+    let a = start .args in
     rw (c .refusal .ensures, told) (
       (copy-nature-refused (formOf (a .f)) (a .c) (now (a .left)) (now (a .right)) (code .copy-code .ensures)
           (code .before .before .read-head .ensures) (width .columns-of .ensures) (width .before .if1 .left)
@@ -68,7 +70,8 @@ returns-3 c =
     let nature = last .before .before .before .before .before .before .before .before .before .before .before .before .before in
     let width = nature .before .before .before .before .before .before .before in
     let code = width .before .before in
-    let a = code .before .before .before .before .before .before .before .before .before .args in (
+    let start = code .before .before .before .before .before .before .before .before .before in
+    let a = start .args in (
       copy-last-refused (formOf (a .f)) (a .c) (now (a .left)) (now (a .right)) (code .copy-code .ensures)
           (code .before .before .read-head .ensures) (width .columns-of .ensures) (width .before .if1 .left)
           (rw (last .before .before .derived .given .1) at (nature .propagate-binary-nature .ensures .0))
@@ -98,7 +101,8 @@ returns-4 c =
     let nature = known .before .before .before .before .before .before .before .before .before .before .before in
     let width = nature .before .before .before .before .before .before .before in
     let code = width .before .before in
-    let a = code .before .before .before .before .before .before .before .before .before .args in
+    let start = code .before .before .before .before .before .before .before .before .before in
+    let a = start .args in
     let back : toZ w64 (ofZ w64 (node .node-at .result)) ≡ node .node-at .result = search needs in (
       copy-written (formOf (a .f)) (a .c) (now (a .left)) (now (a .right)) (code .copy-code .ensures)
           (code .before .before .read-head .ensures) (width .columns-of .ensures) (width .before .if1 .left)

@@ -1,27 +1,22 @@
 -- `steps::step_pair` meets its contract. Assumes nothing.
 use mathlib.Core.Path.{_≡_, sym, ap, _∙_}
 use mathlib.Core.Logic.{inl}
-use Prim.Native.Nat.{ℕ}
-use native.Mathlib.Omega.{arith}
 use lib.IntN.{pos}
-use mir.Syntax.{w32, w64}
-use mir.Val.{Fits, SFits, toZ, ofZ}
+use mir.Syntax.{w64}
+use mir.Val.{toZ, ofZ}
 use mir.Facts.{toZ-ofZ}
 use denote.Ref.{now}
 use borrow.Author.Needs.{needs}
 use Rattle.base.specs.Form.{formOf}
 use Rattle.base.specs.Components.{isUnary}
 use Rattle.base.specs.declared.Family.{Family}
-use Rattle.natures.specs.Code.{isIntCopy}
+use Rattle.orders.specs.Parts.{isIntCopy}
 use Rattle.lending.proofs.Lending.{stands}
 use Rattle.steps.proofs.Passing.{pair-columns}
-use Rattle.steps.proofs.Delivered.{room, pair-refused, pair-nature-refused, pair-written}
+use Rattle.deliveries.proofs.Answers.{room, node-fits}
+use Rattle.steps.proofs.Delivered.{pair-refused, pair-nature-refused, pair-written}
 use Rattle.steps.proofs.step_pair.Statement.{statement}
 use Rattle.steps.proofs.step_pair.Tie as tie
-
--- 32 bits fit 64 signed ones
-node-fits : {n : ℕ} → Fits w32 n → SFits w64 (pos n)
-node-fits f = let h = f .fits in record { sfits = omega arith }
 
 read-head-requires : tie.Need-read-head-requires
 read-head-requires c κs = stands (c .before .before .before .before .before .before .pre .0 .0)
@@ -62,7 +57,8 @@ returns-2 c =
     let nature = c .before .before .before .before .before .before .before .before .before .before .before .before in
     let width = nature .before .before .before .before .before .before .before in
     let code = width .before .before in
-    let a = code .before .before .before .before .before .before .before .before .before .args in
+    let start = code .before .before .before .before .before .before .before .before .before in
+    let a = start .args in
     rw (c .refusal .ensures, told) (
       (pair-nature-refused (formOf (a .f)) (a .c) (a .node) (now (a .left)) (now (a .right)) (code .pair-code .ensures)
           (code .before .before .read-head .ensures) (code .before .read-head2 .ensures) (width .widest .ensures) (width .before .if1 .left)

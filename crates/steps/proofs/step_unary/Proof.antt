@@ -7,7 +7,8 @@ use borrow.Author.Needs.{needs}
 use Rattle.base.specs.Form.{formOf}
 use Rattle.lending.proofs.Lending.{stands}
 use Rattle.steps.proofs.Passing.{unary-columns}
-use Rattle.steps.proofs.Delivered.{room, bounded, unary-refused, unary-nature-refused, unary-written}
+use Rattle.deliveries.proofs.Answers.{room, bounded}
+use Rattle.steps.proofs.Delivered.{unary-refused, unary-nature-refused, unary-written}
 use Rattle.steps.proofs.step_unary.Statement.{statement}
 use Rattle.steps.proofs.step_unary.Tie as tie
 

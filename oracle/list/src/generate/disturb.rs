@@ -1,6 +1,7 @@
 //! Changes that lead a pair of sheets towards one refusal.
 
 use super::numbers::{self, Scale, Taste};
+use crate::form::POOL;
 use crate::random::Random;
 use crate::sheet::{Key, Nature, Sheet};
 
@@ -17,7 +18,9 @@ pub fn sheets(random: &mut Random, aim: u32, component: u32, left: &mut Sheet, r
         15 | 16 => conditions(random, aim, component, left, right),
         17..=22 => natures(random, aim, component, left, right),
         23 => divisors(random, left, right),
+        24 if component == POOL => far_rows(random, left, right),
         24 => extremes(random, left, right),
+        26 if component == POOL => long_unions(random, left, right),
         26 => many_categories(random, left, right),
         _ => (),
     }
@@ -117,8 +120,14 @@ fn origins(random: &mut Random, aim: u32, left: &mut Sheet, right: &mut Sheet) {
 /// 11 to 14: column counts, rows, data types.
 fn shapes(random: &mut Random, aim: u32, component: u32, left: &mut Sheet, right: &mut Sheet) {
     match aim {
-        11 if component > 5 || random.percent(50) => left.columns = None,
+        11 if matches!(component, 6..=9) || random.percent(50) => left.columns = None,
         11 => right.columns = None,
+        12 if component == POOL && random.percent(50) => {
+            // One column goes with no other count here.
+            let columns = Some(random.between(2, 16));
+            let counts = [(Some(1), columns), (columns, Some(1))];
+            (left.columns, right.columns) = random.pick(&counts);
+        }
         12 => {
             let columns = random.between(2, 16);
             left.columns = Some(columns);
@@ -283,6 +292,36 @@ fn extremes(random: &mut Random, left: &mut Sheet, right: &mut Sheet) {
             Nature::WholeRange(entries.collect())
         };
     }
+}
+
+/// 24 under Pool: rows whose sum leaves 64 bits, or just fits.
+fn far_rows(random: &mut Random, left: &mut Sheet, right: &mut Sheet) {
+    let near = random.between(0, 9);
+    let rows = random.pick(&[
+        (i64::MAX, 1),
+        (i64::MIN, -1),
+        (i64::MAX - near, 5),
+        (-5, i64::MIN + near),
+        (i64::MAX, i64::MAX),
+        (i64::MIN, i64::MIN),
+        (i64::MIN, i64::MAX),
+    ]);
+    (left.rows, right.rows) = (Some(rows.0), Some(rows.1));
+}
+
+/// 26 under Pool: unions around 128, by one list or by one for each column.
+fn long_unions(random: &mut Random, left: &mut Sheet, right: &mut Sheet) {
+    let columns = left.columns.unwrap_or(1);
+    let most = 128 / columns + random.between(-1, 1);
+    let start = random.between(-70, 5);
+    let split = random.between(0, most.max(0));
+    let back = random.below(4) as i64;
+    let run = |first: i64, end: i64| {
+        let list: Vec<i64> = (first..end).take(128).collect();
+        Nature::WholeLists(vec![list])
+    };
+    left.nature = run(start, start + split);
+    right.nature = run(start + split - back, start + most);
 }
 
 /// 26: products around 128, and lists that spread over columns.

@@ -4,21 +4,22 @@ use Rattle.base.specs.Components.{componentOf}
 use Rattle.base.proofs.Component.from_number.Statement.{statement}
 use Rattle.base.proofs.Component.from_number.Tie as tie
 
-unlisted : tie.Need-returns-10
+unlisted : tie.Need-returns-11
 unfolding componentOf
 unlisted c =
     let n = c .before .args .n in
     let r = c .match .rest in
     simp (
-      ne-eqb n 1 (r .0 .0 .0 .0 .0 .0 .0 .0 .1),
-      ne-eqb n 2 (r .0 .0 .0 .0 .0 .0 .0 .1),
-      ne-eqb n 3 (r .0 .0 .0 .0 .0 .0 .1),
-      ne-eqb n 4 (r .0 .0 .0 .0 .0 .1),
-      ne-eqb n 5 (r .0 .0 .0 .0 .1),
-      ne-eqb n 6 (r .0 .0 .0 .1),
-      ne-eqb n 7 (r .0 .0 .1),
-      ne-eqb n 8 (r .0 .1),
-      ne-eqb n 9 (r .1),
+      ne-eqb n 1 (r .0 .0 .0 .0 .0 .0 .0 .0 .0 .1),
+      ne-eqb n 2 (r .0 .0 .0 .0 .0 .0 .0 .0 .1),
+      ne-eqb n 3 (r .0 .0 .0 .0 .0 .0 .0 .1),
+      ne-eqb n 4 (r .0 .0 .0 .0 .0 .0 .1),
+      ne-eqb n 5 (r .0 .0 .0 .0 .0 .1),
+      ne-eqb n 6 (r .0 .0 .0 .0 .1),
+      ne-eqb n 7 (r .0 .0 .0 .1),
+      ne-eqb n 8 (r .0 .0 .1),
+      ne-eqb n 9 (r .0 .1),
+      ne-eqb n 10 (r .1),
     )
 
 pub from-number-spec : {M : Type 1} → statement M
@@ -35,4 +36,5 @@ from-number-spec =
     (λ c. rw (c .match .keys7))
     (λ c. rw (c .match .keys8))
     (λ c. rw (c .match .keys9))
+    (λ c. rw (c .match .keys10))
     unlisted)

@@ -6,10 +6,10 @@ use Rattle.replay.proofs.tally.print_places.Statement.{statement}
 use Rattle.replay.proofs.tally.print_places.Tie as tie
 
 abbrev Inv-loop : tie.InvT-loop
-Inv-loop agree differ k₀ k = k ≤ 10
+Inv-loop agree differ k₀ k = k ≤ 11
 
 abbrev μ-loop : tie.MeasureT-loop
-μ-loop agree differ k₀ k = 10 - k
+μ-loop agree differ k₀ k = 11 - k
 
 pub print-places-spec : {M : Type 1} → statement M
 print-places-spec =

@@ -6,10 +6,10 @@ use Rattle.replay.proofs.tally.sum.Statement.{statement}
 use Rattle.replay.proofs.tally.sum.Tie as tie
 
 abbrev Inv-loop : tie.InvT-loop
-Inv-loop counts total₀ k₀ total k = k ≤ 10
+Inv-loop counts total₀ k₀ total k = k ≤ 11
 
 abbrev μ-loop : tie.MeasureT-loop
-μ-loop counts total₀ k₀ total k = 10 - k
+μ-loop counts total₀ k₀ total k = 11 - k
 
 pub sum-spec : {M : Type 1} → statement M
 sum-spec =

@@ -1,0 +1,13 @@
+//! The documents' worked examples and traps, answered by the proved library: the port's tests with another answering.
+
+#[path = "../../port/tests/examples/made.rs"]
+mod made;
+#[path = "../../port/tests/examples/pool.rs"]
+mod pool;
+#[path = "../../port/tests/examples/shelf.rs"]
+mod shelf;
+
+/// Who answers.
+mod answering {
+    pub use comparison::proved::{propagate_properties, propagate_property};
+}

@@ -1,0 +1,22 @@
+-- What the step of Pool makes between its checks and its sheet.
+use mathlib.Core.Bool.{cond}
+use mathlib.Core.Option.{Option}
+use Prim.Native.Nat.{ℕ}
+use lib.IntN.{ℤ}
+use lib.Dec.{eqb}
+use Rattle.numbers.specs.Result.{Result, ok, refused}
+use Rattle.base.specs.Code.{signedOf}
+use Rattle.writer.specs.declared.Derived.{Derived}
+use Rattle.writer.specs.declared.Derived.the-variants as D
+use Rattle.pooling.specs.declared.Rows.{Rows}
+use Rattle.pooling.specs.declared.Rows.the-variants as R
+
+-- the rows' sum, or 24
+abbrev pub rowsIn : Rows → Result (Option ℤ)
+rowsIn (R.Are n) = ok (signedOf n)
+rowsIn R.Leave = refused 24
+
+-- the refusal where the rows leave 64 bits: the nature's, unless it is 26
+abbrev pub behindRows : Derived → ℕ
+behindRows (D.Nature p) = 24
+behindRows (D.Refused k) = cond (eqb k 26) 24 k

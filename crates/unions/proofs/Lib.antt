@@ -1,0 +1,3 @@
+-- What the proofs cite.
+pub mod Mapped
+pub mod United
