@@ -1,4 +1,4 @@
-// The step of each family: from operands that passed 3 to 5, the derived sheet at the start of a buffer.
+// The step of each family but Pool: from operands that passed 3 to 5, the derived sheet at the start of a buffer.
 use base::Component;
 use base::form::Form;
 use bytes::Put;
