@@ -7,6 +7,7 @@ use crate::tally::Tally;
 use oracle_list::form::{self, hex, Call, POOL};
 use oracle_list::generate;
 use oracle_list::random::Random;
+use oracle_list::sheet::{LONGEST, MOST_TEXT};
 use oracle_list::text;
 
 fn judged(call: &Request) -> Expected {
@@ -42,7 +43,7 @@ fn show(name: &str, fault: &str, call: &Request, wanted: &Expected) -> String {
 }
 
 /// Generated calls, answered by the proved library, the port and the oracle;
-/// Pool's by the first two.
+/// Pool's, and those with texts that are no UTF-8, by the first two.
 pub fn generated(seed: u64, count: usize) -> Tally {
     let mut random = Random::new(seed);
     let (mut guard, mut tally) = (Guard::default(), Tally::default());
@@ -59,7 +60,7 @@ pub fn generated(seed: u64, count: usize) -> Tally {
 }
 
 fn hold(guard: &mut Guard, tally: &mut Tally, call: &Request, wanted: &Expected) {
-    count(tally, call.component, wanted);
+    count(tally, call, wanted);
     for (name, answer) in SINGLES {
         if let Err(fault) = guard.check(answer, call, wanted) {
             tally.differ(|| show(name, &fault, call, wanted));
@@ -67,9 +68,11 @@ fn hold(guard: &mut Guard, tally: &mut Tally, call: &Request, wanted: &Expected)
     }
 }
 
-fn count(tally: &mut Tally, component: u32, wanted: &Expected) {
+fn count(tally: &mut Tally, call: &Request, wanted: &Expected) {
     tally.count(wanted.code);
-    if component == POOL {
+    let read = (call.component, call.left, call.right);
+    tally.count_texts(read, wanted.code, &wanted.bytes);
+    if call.component == POOL {
         tally.count_pool(wanted.code, &wanted.bytes);
     }
 }
@@ -87,8 +90,19 @@ pub fn stored(text: &str) -> Result<Tally, String> {
     Ok(tally)
 }
 
-const LENGTHS: [usize; 7] = [0, 79, 80, 1283, 1284, 1285, 70_000];
-const OUTPUTS: [usize; 6] = [0, 79, 80, 1284, 1285, 70_000];
+/// The longest sheet without texts.
+const SHORTER: usize = LONGEST - MOST_TEXT;
+const LENGTHS: [usize; 8] = [
+    0,
+    79,
+    80,
+    SHORTER,
+    LONGEST - 1,
+    LONGEST,
+    LONGEST + 1,
+    70_000,
+];
+const OUTPUTS: [usize; 7] = [0, 79, 80, LONGEST - 1, LONGEST, LONGEST + 1, 70_000];
 const COMPONENTS: [u32; 14] = [0, 1, 2, 3, 4, 5, 6, 7, 8, 9, POOL, 11, 200, u32::MAX];
 
 /// Any bytes in any argument.
@@ -120,10 +134,15 @@ pub fn bad(seed: u64) -> Tally {
 
 /// Zeros, ones, noise, small numbers, or a sheet cut or filled to the length.
 fn any_bytes(random: &mut Random, length: usize) -> Vec<u8> {
-    match random.below(7) {
+    match random.below(9) {
+        7 | 8 => filled(random, length),
         6 => {
             // Sizes of 0 let 80 bytes of noise come as far as check 4.
-            let noise = |at| if at < 6 { 0 } else { random.word() as u8 };
+            let sizes = |at: usize| at < 6 || at == 26 || at == 27;
+            let noise = |at| match sizes(at) {
+                true => 0,
+                false => random.word() as u8,
+            };
             (0..length).map(noise).collect()
         }
         0 => vec![0; length],
@@ -136,6 +155,30 @@ fn any_bytes(random: &mut Random, length: usize) -> Vec<u8> {
             bytes
         }
     }
+}
+
+/// A text sheet of about this length, whose area's size or values may depart.
+fn filled(random: &mut Random, length: usize) -> Vec<u8> {
+    let mut bytes = text::bytes("T{127#8,a*8} groups=1:i1,2:b1,3:s3,4:i4");
+    let values = 80 + 13 * 4 + 128;
+    let area = (length + MOST_TEXT).saturating_sub(LONGEST) as u16;
+    match random.below(6) {
+        // The area takes what the length leaves, and the texts do not fill it.
+        0 => bytes[26..28].copy_from_slice(&area.to_le_bytes()),
+        1 => bytes[random.pick(&[26, 27])] = random.word() as u8,
+        2 => bytes[values + random.below(8 * 128)] ^= 1 << random.below(8),
+        3 => {
+            // Lengths that add up in 32 bits alone.
+            let end = u32::MAX - random.below(8) as u32;
+            bytes[values + 4..values + 8].copy_from_slice(&end.to_le_bytes());
+            bytes[values + 8..values + 12].copy_from_slice(&end.to_le_bytes());
+            let rest = 16u32.wrapping_sub(end);
+            bytes[values + 12..values + 16].copy_from_slice(&rest.to_le_bytes());
+        }
+        _ => (),
+    }
+    bytes.resize(length, random.word() as u8);
+    bytes
 }
 
 /// Operands that share bytes: one slice twice, and shifted parts of one buffer.
@@ -152,7 +195,7 @@ fn shared(random: &mut Random, guard: &mut Guard, tally: &mut Tally) {
                 [(shift, length - shift), (0, length)],
                 [(0, length - shift), (shift, length - shift)],
             ] {
-                hold_shared(guard, tally, component, &sheet, parts, 1284);
+                hold_shared(guard, tally, component, &sheet, parts, LONGEST);
             }
         }
         let (buffer, parts) = tail_is_a_head();
@@ -188,7 +231,7 @@ fn hold_shared(
         out_len,
     };
     let wanted = judged(&call);
-    count(tally, component, &wanted);
+    count(tally, &call, &wanted);
     for (name, answer) in SINGLES {
         if let Err(fault) = guard.check_shared(answer, &call, buffer, parts, &wanted) {
             tally.differ(|| show(name, &fault, &call, &wanted));
@@ -211,20 +254,27 @@ mod tests {
             assert!(tally.of_pool(*code) > 0, "no {code} of Pool: {tally}");
         }
         assert!(tally.pooled().iter().all(|count| *count > 20), "{tally}");
+        let texts = tally.texts();
+        assert!(
+            texts.joined > 20 && texts.united > 20 && texts.other > 50,
+            "{tally}"
+        );
+        assert!(texts.long_joins > 2 && texts.long_unions > 1, "{tally}");
         assert!(
             tally.of(0) > 400 && tally.of(3) > 100 && tally.of(4) > 100 && tally.of(27) > 20,
             "{tally}"
         );
     }
 
-    /// Pool's named cases, which no oracle answers.
+    /// The named cases that no oracle answers: Pool's, and texts of any bytes.
     #[test]
-    fn pool_cases_answer_as_expected() {
-        for case in cases::pool() {
+    fn cases_without_an_oracle_answer_as_expected() {
+        for case in cases::pool().into_iter().chain(cases::raw()) {
             for (name, answer) in SINGLES {
                 let call = &case.call;
                 let mut bytes = vec![FILLER; call.out_len];
-                let (code, length) = answer(POOL, call.node, &call.left, &call.right, &mut bytes);
+                let (component, node) = (call.component, call.node);
+                let (code, length) = answer(component, node, &call.left, &call.right, &mut bytes);
                 assert!(bytes[length as usize..].iter().all(|byte| *byte == FILLER));
                 bytes.truncate(length as usize);
                 let mark = Mark::Added;

@@ -186,7 +186,8 @@ fn sheet_at(slot: &[u8]) -> Option<Sheet> {
         1 | 2 => 18 * size(2),
         _ => 9 * size(4),
     };
-    Sheet::decode_unordered(slot.get(..80 + 13 * size(0) + tail)?).ok()
+    let area = size(26) + 256 * size(27);
+    Sheet::decode_unordered(slot.get(..80 + 13 * size(0) + tail + area)?).ok()
 }
 
 /// The premises of demand 3, over the sheets.
@@ -496,6 +497,24 @@ mod tests {
         let row = |side| [0, 1].map(|column| result(&step, side, &results, column).unwrap());
         assert_eq!(row(Side::Left).map(Option::unwrap).to_vec(), small(1));
         assert_eq!(row(Side::Right).map(Option::unwrap).to_vec(), small(7));
+    }
+
+    /// A text leaf takes a plan out of the claim, used or not.
+    #[test]
+    fn texts_are_outside_the_premises() {
+        let (mut sheets, steps) = walked(2, "T{a}", "T{b}");
+        assert!(!premises(2, &steps, &sheets));
+        let (absent, modulo) = walked(6, "T{a}", "W[3,8]");
+        assert!(!premises(2, &modulo, &absent));
+        sheets.splice(1.., [text::sheet("W[1,2]"), text::sheet("W[2,4]")]);
+        let used = [Step {
+            component: 2,
+            left: 1,
+            right: 1,
+        }];
+        assert!(!premises(2, &used, &sheets));
+        sheets[0] = text::sheet("W[1,2]");
+        assert!(premises(2, &used, &sheets));
     }
 
     /// Outside the premises there are counterexamples, and they are seen.

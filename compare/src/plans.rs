@@ -1,5 +1,6 @@
 //! Plans: drawn, answered by walking the oracle step by step, and compared. A
-//! step of Pool, which the oracle has not, is taken by the port.
+//! step that the oracle has not, of Pool or over a text that is no UTF-8, is taken
+//! by the port.
 
 use crate::draw;
 use crate::judge;
@@ -8,18 +9,20 @@ use crate::Reply;
 use oracle_list::form::{hex, POOL};
 use oracle_list::generate;
 use oracle_list::random::Random;
-use oracle_list::sheet::{Sheet, HEAD, LONGEST, MOST_CATEGORIES, MOST_GROUPS, MOST_LISTS};
+use oracle_list::sheet::{
+    Sheet, HEAD, LONGEST, MOST_CATEGORIES, MOST_GROUPS, MOST_LISTS, MOST_TEXT, TEXT,
+};
 use std::ops::RangeInclusive;
 
 pub const SLOT: usize = LONGEST;
 pub const MOST_NODES: usize = 32;
 pub const NO_NODE: u32 = 65_535;
 /// What may be refused at a step: 2, 3, 4, 25 and 27 cannot.
-pub const STEP_CODES: [u32; 21] = [
-    5, 6, 7, 8, 9, 10, 11, 12, 13, 14, 15, 16, 17, 18, 19, 20, 21, 22, 23, 24, 26,
+pub const STEP_CODES: [u32; 22] = [
+    5, 6, 7, 8, 9, 10, 11, 12, 13, 14, 15, 16, 17, 18, 19, 20, 21, 22, 23, 24, 26, 28,
 ];
 /// What a step of Pool may be refused with.
-pub const POOL_CODES: [u32; 14] = [5, 6, 7, 8, 11, 12, 14, 17, 18, 19, 20, 21, 24, 26];
+pub const POOL_CODES: [u32; 15] = [5, 6, 7, 8, 11, 12, 14, 17, 18, 19, 20, 21, 24, 26, 28];
 pub const LEAF_CODES: [u32; 3] = [3, 4, 5];
 
 /// The components that a step is drawn from.
@@ -143,12 +146,12 @@ impl Draft {
         false
     }
 
-    /// Whether a step of Pool was given a nature of this number.
-    pub fn pools_to(&self, nature: u8) -> bool {
+    /// Whether a step of a component was given a nature of this number.
+    pub fn derives(&self, component: u32, nature: u8) -> bool {
         let derived = self.steps.iter().zip(&self.sheets[self.leaves.len()..]);
         derived
             .into_iter()
-            .any(|(step, sheet)| step.component == POOL && sheet[6] == nature)
+            .any(|(step, sheet)| step.component == component && sheet[6] == nature)
     }
 
     /// Adds well-formed steps without asking the judge.
@@ -161,7 +164,7 @@ impl Draft {
     }
 }
 
-/// Two sheets that suit a component, or one.
+/// Two sheets that suit a component, or one; texts are now and then no UTF-8.
 fn operands(random: &mut Random) -> Vec<Vec<u8>> {
     loop {
         let component = component(random, &ALL);
@@ -171,6 +174,10 @@ fn operands(random: &mut Random) -> Vec<Vec<u8>> {
             sheets.push(call.right);
         }
         if sheets.iter().all(|sheet| Sheet::decode(sheet).is_ok()) {
+            let other = random.percent(20).then(|| draw::text_mask(random));
+            for sheet in &mut sheets {
+                other.map(|mask| draw::other_text(random, mask, sheet));
+            }
             return sheets;
         }
     }
@@ -285,10 +292,20 @@ pub fn refused_leaf(random: &mut Random, code: u32) -> Draft {
         let place = random.below(draft.leaves.len());
         let call = generate::call_for(random, 2, code);
         if code == 3 {
-            let limits = [(0, MOST_GROUPS), (2, MOST_LISTS), (4, MOST_CATEGORIES)];
+            let limits = [
+                (0, MOST_GROUPS),
+                (2, MOST_LISTS),
+                (4, MOST_CATEGORIES),
+                (26, MOST_TEXT),
+            ];
             let (at, limit) = random.pick(&limits);
-            let size = random.pick(&[limit + 1, 1000, 65_535]) as u16;
+            let size = random.pick(&[limit + 1, 2000, 65_535]) as u16;
             draft.leaves[place][at..at + 2].copy_from_slice(&size.to_le_bytes());
+            return draft;
+        }
+        if code == 4 && draft.leaves[place][6] != TEXT && random.percent(20) {
+            // In a slot the length is taken from the sizes, so that it is no 3.
+            draft.leaves[place][26] = random.pick(&[1, 255]);
             return draft;
         }
         let sheet = [call.left, call.right]
@@ -336,15 +353,19 @@ pub fn malform(random: &mut Random, draft: &Draft) -> Vec<u8> {
 /// The sheet at the start of a slot, by the sizes in its bytes.
 fn leaf_sheet(slot: &[u8]) -> Result<&[u8], u32> {
     let size = |at: usize| slot[at] as usize + 256 * slot[at + 1] as usize;
-    let (groups, lists, categories) = (size(0), size(2), size(4));
-    if groups > MOST_GROUPS || lists > MOST_LISTS || categories > MOST_CATEGORIES {
+    let (groups, lists, categories, text) = (size(0), size(2), size(4), size(26));
+    if groups > MOST_GROUPS
+        || lists > MOST_LISTS
+        || categories > MOST_CATEGORIES
+        || text > MOST_TEXT
+    {
         return Err(3);
     }
     let tail = match slot[6] {
         1 | 2 => 18 * lists,
         _ => 9 * categories,
     };
-    let sheet = &slot[..HEAD + 13 * groups + tail];
+    let sheet = &slot[..HEAD + 13 * groups + tail + text];
     Sheet::decode(sheet).map(|_| sheet)
 }
 
@@ -415,9 +436,14 @@ pub fn walk(plan: &[u8], work: &[u8]) -> Expected {
 
 /// The work buffer that a request hands over: leaves in their slots, all else filler.
 pub fn lay_out(request: &Request, filler: u8) -> Vec<u8> {
-    let mut work = vec![filler; request.work_len];
+    lay_out_by(SLOT, request, filler)
+}
+
+/// The same in slots of another length, with as many bytes for each node.
+pub fn lay_out_by(slot: usize, request: &Request, filler: u8) -> Vec<u8> {
+    let mut work = vec![filler; request.work_len / SLOT * slot + request.work_len % SLOT];
     for (leaf, sheet) in request.leaves.iter().enumerate() {
-        let start = SLOT * leaf;
+        let start = slot * leaf;
         if start + sheet.len() <= work.len() {
             work[start..start + sheet.len()].copy_from_slice(sheet);
         }
@@ -435,16 +461,30 @@ fn after(work: &[u8], leaves: usize, derived: &[Vec<u8>]) -> Vec<u8> {
     after
 }
 
-/// Counts the steps of Pool that were taken, and one that was refused.
-fn count_pools(tally: &mut Tally, leaves: usize, steps: &[Step], wanted: &Expected) {
+/// Counts the steps of Pool and the steps over texts that were taken, and one
+/// that was refused.
+fn count_steps(tally: &mut Tally, request: &Request, wanted: &Expected) {
+    let (leaves, steps) = parse(&request.plan).unwrap_or_default();
     let (code, node) = wanted.reply;
-    let pools = (0..steps.len()).filter(|index| steps[*index].component == POOL);
-    for index in pools {
-        match wanted.derived.get(index) {
-            Some(sheet) => tally.count_pool(0, sheet),
-            None if leaves + index == node as usize => tally.count_pool(code, &[]),
-            None => (),
+    let mut sheets = request.leaves.clone();
+    sheets.resize(leaves, Vec::new());
+    sheets.extend(wanted.derived.iter().cloned());
+    for (index, step) in steps.iter().enumerate() {
+        let refused = leaves + index == node as usize;
+        let (code, sheet) = match wanted.derived.get(index) {
+            Some(sheet) => (0, &sheet[..]),
+            None if refused => (code, &[][..]),
+            None => return,
+        };
+        if step.component == POOL {
+            tally.count_pool(code, sheet);
         }
+        let read = (
+            step.component,
+            &sheets[step.left][..],
+            &sheets[step.right][..],
+        );
+        tally.count_texts(read, code, sheet);
     }
 }
 
@@ -453,8 +493,8 @@ pub fn hold(tally: &mut Tally, request: &Request, filler: u8, wanted: &Expected)
     const MARGIN: usize = 64;
     const AROUND: u8 = 0x3c;
     tally.count(wanted.reply.0);
-    let (leaves, steps) = parse(&request.plan).unwrap_or_default();
-    count_pools(tally, leaves, &steps, wanted);
+    count_steps(tally, request, wanted);
+    let (leaves, _) = parse(&request.plan).unwrap_or_default();
     let work = lay_out(request, filler);
     let guarded = |bytes: &[u8]| [&[AROUND; MARGIN], bytes, &[AROUND; MARGIN]].concat();
     let plan_after = guarded(&request.plan);
@@ -548,6 +588,9 @@ mod tests {
             assert!(tally.of_pool(code) > 0, "no {code} of Pool: {tally}");
         }
         assert!(tally.pooled().iter().all(|count| *count > 20), "{tally}");
+        let texts = tally.texts();
+        assert!(texts.joined > 20 && texts.united > 20, "{tally}");
+        assert!(texts.long_joins > 0 && texts.other > 5, "{tally}");
     }
 
     #[test]

@@ -6,21 +6,24 @@ use crate::plans::{
     POOL_CODES, SLOT, STEP_CODES,
 };
 use crate::tally::Tally;
-use oracle_list::form::{hex, is_comment};
+use oracle_list::form::{hex, is_comment, POOL};
 use oracle_list::random::Random;
+use oracle_list::sheet::TEXT;
 use std::fmt::Write;
+
+const ADD: u32 = 2;
 
 /// A line that is longer is drawn again, so that the file stays small.
 const LONGEST_LINE: usize = 9000;
 
 const FORM: &str = "\
-# Plan calls with the answers of the original text, walked step by step; a step of component 10, Pool, which the
-# original has not, is the plain port's.
+# Plan calls with the answers of the original text, walked step by step; a step that the original has not, of component
+# 10, Pool, or over a text that is no UTF-8, is the plain port's.
 # One a line, six fields separated by a blank: plan work_len leaves code value result
 #   plan      the plan's bytes in lower-case hex, - for none
 #   work_len  the length of the work buffer, in bytes
 #   leaves    the leaf sheets' bytes in node order, hex, joined by commas, - for none. Sheet i stands at byte
-#             1284 * i of the work buffer; every byte of the buffer that is in no leaf sheet is a5 before the call.
+#             2308 * i of the work buffer; every byte of the buffer that is in no leaf sheet is a5 before the call.
 #             Beside a malformed plan or a short buffer they are the sheets that were laid out all the same.
 #   code      0, or the refusal's number
 #   value     the node count, or the node refused (65535 with 1 and 27)
@@ -108,22 +111,25 @@ fn refused(
     }
 }
 
-/// Accepted with a step of Pool to each nature that it can give.
+/// Accepted with a step of Pool to each nature that it can give, and with a step
+/// of Add to texts.
 fn pooled(random: &mut Random, out: &mut String) {
     let natures = [
-        "absent",
-        "whole range",
-        "float range",
-        "whole lists",
-        "Bool lists",
+        (POOL, 0, "Pool to absent"),
+        (POOL, 1, "Pool to whole range"),
+        (POOL, 2, "Pool to float range"),
+        (POOL, 3, "Pool to whole lists"),
+        (POOL, 4, "Pool to Bool lists"),
+        (POOL, TEXT, "Pool to text lists"),
+        (ADD, TEXT, "Add to text lists"),
     ];
-    for (nature, name) in (0..).zip(natures) {
-        let _ = writeln!(out, "# accepted, Pool to {name}");
+    for (component, nature, name) in natures {
+        let _ = writeln!(out, "# accepted, {name}");
         for _ in 0..4 {
             let draw = |random: &mut Random| loop {
                 let nodes = random.between(3, 9) as usize;
                 let draft = plans::accepted(random, nodes);
-                if draft.pools_to(nature) {
+                if draft.derives(component, nature) {
                     return draft.request();
                 }
             };
@@ -305,5 +311,7 @@ mod tests {
             assert!(tally.of_pool(code) >= 4, "Pool's {code}: {tally}");
         }
         assert!(tally.pooled().iter().all(|count| *count >= 4), "{tally}");
+        let texts = tally.texts();
+        assert!(texts.joined >= 4 && texts.long_joins >= 1, "{tally}");
     }
 }

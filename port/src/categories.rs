@@ -3,32 +3,80 @@
 use crate::form::*;
 use crate::sheet::{Refusal, Sheet};
 
+/// What a category list is made of.
+pub trait Value<'a>: Copy + PartialEq {
+    const NONE: Self;
+    fn read(word: &[u8], area: &'a [u8]) -> Self;
+    /// The bytes that it takes of the text area.
+    fn text_length(&self) -> usize;
+}
+
+/// Whole numbers, and bools as 0 and 1.
+impl Value<'_> for i64 {
+    const NONE: i64 = 0;
+    fn read(word: &[u8], _area: &[u8]) -> i64 {
+        word64(word, 0) as i64
+    }
+    fn text_length(&self) -> usize {
+        0
+    }
+}
+
+/// A text in two parts, so that a join is compared without being stored: a
+/// store of 1,024 bytes would be full before 26 is decided.
+#[derive(Clone, Copy)]
+pub struct Text<'a>(pub &'a [u8], pub &'a [u8]);
+
+impl<'a> Value<'a> for Text<'a> {
+    const NONE: Text<'a> = Text(&[], &[]);
+    fn read(word: &[u8], area: &'a [u8]) -> Text<'a> {
+        let (start, length) = (word32(word, 0), word32(word, TEXT_LENGTH));
+        Text(&area[start as usize..][..length as usize], &[])
+    }
+    fn text_length(&self) -> usize {
+        self.0.len() + self.1.len()
+    }
+}
+
+impl Text<'_> {
+    pub fn bytes(&self) -> impl Iterator<Item = &u8> {
+        self.0.iter().chain(self.1)
+    }
+}
+
+/// By the joined bytes, wherever the parts meet.
+impl PartialEq for Text<'_> {
+    fn eq(&self, other: &Text) -> bool {
+        self.text_length() == other.text_length() && self.bytes().eq(other.bytes())
+    }
+}
+
 /// Lists as they would be written, at most 128 values. Once more would be
 /// needed it is `over`, and only the arithmetic goes on.
-pub struct Store {
+pub struct Store<T> {
     /// The nature's number.
     pub kind: u8,
     pub lists: usize,
     pub count: usize,
     pub numbers: [u8; MOST_CATEGORIES],
-    pub values: [i64; MOST_CATEGORIES],
+    pub values: [T; MOST_CATEGORIES],
     over: bool,
 }
 
 /// One list without repeats.
-struct List {
+struct List<T> {
     count: usize,
-    values: [i64; MOST_CATEGORIES],
+    values: [T; MOST_CATEGORIES],
 }
 
-impl List {
-    fn read(bytes: &[u8]) -> List {
+impl<'a, T: Value<'a>> List<T> {
+    fn read(sheet: &Sheet<'a>, number: usize) -> List<T> {
         let mut list = List {
             count: 0,
-            values: [0; MOST_CATEGORIES],
+            values: [T::NONE; MOST_CATEGORIES],
         };
-        for value in bytes.chunks_exact(WORD) {
-            let value = word64(value, 0) as i64;
+        for word in sheet.list(number).chunks_exact(WORD) {
+            let value = T::read(word, sheet.area);
             if !list.as_slice().contains(&value) {
                 list.values[list.count] = value;
                 list.count += 1;
@@ -37,24 +85,24 @@ impl List {
         list
     }
 
-    fn as_slice(&self) -> &[i64] {
+    fn as_slice(&self) -> &[T] {
         &self.values[..self.count]
     }
 }
 
-impl Store {
-    fn new(kind: u8) -> Store {
+impl<'a, T: Value<'a>> Store<T> {
+    fn new(kind: u8) -> Store<T> {
         Store {
             kind,
             lists: 0,
             count: 0,
             numbers: [0; MOST_CATEGORIES],
-            values: [0; MOST_CATEGORIES],
+            values: [T::NONE; MOST_CATEGORIES],
             over: false,
         }
     }
 
-    fn push(&mut self, list: usize, value: i64) {
+    fn push(&mut self, list: usize, value: T) {
         if self.count == MOST_CATEGORIES {
             self.over = true;
             return;
@@ -68,14 +116,14 @@ impl Store {
     fn push_product(
         &mut self,
         list: usize,
-        component: u32,
-        left: &List,
-        right: &List,
+        rule: impl Fn(T, T) -> Option<T>,
+        left: &List<T>,
+        right: &List<T>,
     ) -> Result<(), Refusal> {
         let start = self.count;
         for l in left.as_slice() {
             for r in right.as_slice() {
-                let value = combine(component, *l, *r).ok_or(24u32)?;
+                let value = rule(*l, *r).ok_or(24u32)?;
                 if !self.over && !self.values[start..self.count].contains(&value) {
                     self.push(list, value);
                 }
@@ -85,7 +133,7 @@ impl Store {
     }
 
     /// Appends left's values and then right's, first occurrences alone.
-    fn push_union(&mut self, list: usize, left: &List, right: &List) {
+    fn push_union(&mut self, list: usize, left: &List<T>, right: &List<T>) {
         let start = self.count;
         for value in left.as_slice().iter().chain(right.as_slice()) {
             if !self.values[start..self.count].contains(value) {
@@ -99,35 +147,23 @@ impl Store {
     /// count ends it.
     fn push_columns(
         &mut self,
-        left: &Sheet,
-        right: &Sheet,
+        left: &Sheet<'a>,
+        right: &Sheet<'a>,
         columns: usize,
-        append: impl Fn(&mut Store, usize, &List, &List) -> Result<(), Refusal>,
+        append: impl Fn(&mut Store<T>, usize, &List<T>, &List<T>) -> Result<(), Refusal>,
     ) -> Result<(), Refusal> {
         if left.lists == 1 && right.lists == 1 {
             // Every column's lists are the same.
-            let (left, right) = (List::read(left.list(0)), List::read(right.list(0)));
-            append(self, 0, &left, &right)?;
+            append(self, 0, &List::read(left, 0), &List::read(right, 0))?;
             self.repeat_first(columns);
             return Ok(());
         }
         self.lists = spread(left.lists, columns).min(spread(right.lists, columns));
         let entry = |sheet: &Sheet, column: usize| if sheet.lists == 1 { 0 } else { column };
         for column in 0..self.lists {
-            let left = List::read(left.list(entry(left, column)));
-            let right = List::read(right.list(entry(right, column)));
-            append(self, column, &left, &right)?;
-        }
-        Ok(())
-    }
-
-    fn push_mapped(&mut self, number: usize, component: u32, list: &List) -> Result<(), Refusal> {
-        for value in list.as_slice() {
-            let mapped = match component {
-                ABS => value.checked_abs(),
-                _ => value.checked_neg(),
-            };
-            self.push(number, mapped.ok_or(24u32)?);
+            let left_list = List::read(left, entry(left, column));
+            let right_list = List::read(right, entry(right, column));
+            append(self, column, &left_list, &right_list)?;
         }
         Ok(())
     }
@@ -143,12 +179,39 @@ impl Store {
         self.lists = lists;
     }
 
-    /// 26.
-    pub fn finish(self) -> Result<Store, Refusal> {
+    /// The size of the text area, as the lists would be written.
+    pub fn text_length(&self) -> usize {
+        let values = &self.values[..self.count];
+        values.iter().map(T::text_length).sum()
+    }
+
+    /// 26, then 28.
+    pub fn finish(self) -> Result<Store<T>, Refusal> {
         if self.over {
             return Err(26);
         }
+        if self.text_length() > MOST_TEXT {
+            return Err(28);
+        }
         Ok(self)
+    }
+}
+
+impl Store<i64> {
+    fn push_mapped(
+        &mut self,
+        number: usize,
+        component: u32,
+        list: &List<i64>,
+    ) -> Result<(), Refusal> {
+        for value in list.as_slice() {
+            let mapped = match component {
+                ABS => value.checked_abs(),
+                _ => value.checked_neg(),
+            };
+            self.push(number, mapped.ok_or(24u32)?);
+        }
+        Ok(())
     }
 }
 
@@ -192,14 +255,14 @@ fn spread(lists: usize, columns: usize) -> usize {
 }
 
 /// Abs and Negative: repeats are dropped before the mapping and kept after it.
-pub fn unary(component: u32, left: &Sheet, columns: usize) -> Result<Store, Refusal> {
+pub fn unary(component: u32, left: &Sheet, columns: usize) -> Result<Store<i64>, Refusal> {
     standard(left)?;
-    if left.nature == BOOL_LISTS {
+    if left.nature != WHOLE_LISTS {
         return Err(22);
     }
     let mut store = Store::new(WHOLE_LISTS);
     for number in 0..left.lists {
-        store.push_mapped(number, component, &List::read(left.list(number)))?;
+        store.push_mapped(number, component, &List::read(left, number))?;
     }
     store.lists = left.lists;
     if left.lists == 1 {
@@ -208,28 +271,60 @@ pub fn unary(component: u32, left: &Sheet, columns: usize) -> Result<Store, Refu
     store.finish()
 }
 
-/// 19 to 26 of two category operands.
-pub fn binary(
+/// 19 to 22 of two category operands that are not pooled.
+pub fn have_rule(component: u32, left: &Sheet, right: &Sheet) -> Result<(), Refusal> {
+    alike(left, right)?;
+    let rule = match left.nature {
+        // Only Float Power comes here of 6 to 8, and it has no rule.
+        WHOLE_LISTS => component != POWER,
+        TEXT_LISTS => component == ADD,
+        _ => false,
+    };
+    rule.then_some(()).ok_or(22)
+}
+
+/// 24 and 26 of whole numbers under 2 to 5.
+pub fn combined(
     component: u32,
     left: &Sheet,
     right: &Sheet,
     columns: usize,
-) -> Result<Store, Refusal> {
-    alike(left, right)?;
-    // Only Float Power comes here of 6 to 8, and it has no rule.
-    if left.nature == BOOL_LISTS || component == POWER {
-        return Err(22);
-    }
-    let mut store = Store::new(WHOLE_LISTS);
+) -> Result<Store<i64>, Refusal> {
+    let rule = |l, r| combine(component, l, r);
+    product(WHOLE_LISTS, rule, left, right, columns)
+}
+
+/// 26 and 28 of texts under Add: left's text, then right's.
+pub fn joined<'a>(
+    left: &Sheet<'a>,
+    right: &Sheet<'a>,
+    columns: usize,
+) -> Result<Store<Text<'a>>, Refusal> {
+    let rule = |l: Text<'a>, r: Text<'a>| Some(Text(l.0, r.0));
+    product(TEXT_LISTS, rule, left, right, columns)
+}
+
+fn product<'a, T: Value<'a>>(
+    kind: u8,
+    rule: impl Fn(T, T) -> Option<T>,
+    left: &Sheet<'a>,
+    right: &Sheet<'a>,
+    columns: usize,
+) -> Result<Store<T>, Refusal> {
+    let mut store = Store::new(kind);
     store.push_columns(left, right, columns, |store, column, left, right| {
-        store.push_product(column, component, left, right)
+        store.push_product(column, &rule, left, right)
     })?;
     store.finish()
 }
 
 /// Pool: 19 to 21. The lists may still be too long, since the rows' 24 comes
 /// before 26: the caller finishes them.
-pub fn pooled(left: &Sheet, right: &Sheet, columns: usize) -> Result<Store, Refusal> {
+pub fn pooled<'a, T: Value<'a>>(
+    left: &Sheet<'a>,
+    right: &Sheet<'a>,
+    columns: usize,
+) -> Result<Store<T>, Refusal> {
     alike(left, right)?;
     let mut store = Store::new(left.nature);
     store.push_columns(left, right, columns, |store, column, left, right| {

@@ -5,6 +5,8 @@ pub const MOST_LISTS: usize = 16;
 pub const MOST_CATEGORIES: usize = 128;
 pub const MOST_COLUMNS: i64 = 16;
 pub const MOST_NODES: usize = 32;
+/// Bytes of a sheet's text area.
+pub const MOST_TEXT: usize = 1024;
 
 /// Sizes of the sheet's parts.
 pub const HEAD: usize = 80;
@@ -12,10 +14,12 @@ pub const PARTITION: usize = 4;
 pub const INDEX: usize = 9;
 pub const END: usize = 9;
 pub const WORD: usize = 8;
+/// A text's value is its start, and its length from here.
+pub const TEXT_LENGTH: usize = 4;
 /// A group takes its partition id and its index.
 pub const GROUP: usize = PARTITION + INDEX;
 /// The longest sheet, and a plan's slot.
-pub const SLOT: usize = HEAD + GROUP * MOST_GROUPS + (1 + WORD) * MOST_CATEGORIES;
+pub const SLOT: usize = HEAD + GROUP * MOST_GROUPS + (1 + WORD) * MOST_CATEGORIES + MOST_TEXT;
 
 /// Places in the head.
 pub const AT_GROUPS: usize = 0;
@@ -27,7 +31,9 @@ pub const AT_FLAGS: usize = 8;
 pub const AT_STABILITY: usize = 12;
 pub const AT_AGGREGATOR: usize = 16;
 pub const AT_MARKS: usize = 20;
-pub const AT_RESERVED: usize = 25;
+pub const AT_GAP: usize = 25;
+pub const AT_TEXT: usize = 26;
+pub const AT_RESERVED: usize = 28;
 pub const AT_VALUES: usize = 32;
 pub const AT_NODE: usize = 72;
 
@@ -38,6 +44,7 @@ pub const FLOAT_RANGE: u8 = 2;
 pub const WHOLE_LISTS: u8 = 3;
 pub const BOOL_LISTS: u8 = 4;
 pub const FLOAT_LISTS: u8 = 5;
+pub const TEXT_LISTS: u8 = 6;
 
 /// Numbers at the data type's byte that a rule names.
 pub const FLOAT: u8 = 3;
@@ -82,6 +89,6 @@ pub fn word64(bytes: &[u8], at: usize) -> u64 {
 mod tests {
     #[test]
     fn the_longest_sheet() {
-        assert_eq!(super::SLOT, 1284);
+        assert_eq!(super::SLOT, 2308);
     }
 }

@@ -28,13 +28,16 @@ pub struct Sheet<'a> {
     pub ends: &'a [u8],
     pub numbers: &'a [u8],
     pub values: &'a [u8],
+    /// The texts, end to end.
+    pub area: &'a [u8],
 }
 
-/// The three sizes at the front.
+/// The three sizes at the front, and the text area's.
 struct Sizes {
     groups: usize,
     lists: usize,
     categories: usize,
+    text: usize,
 }
 
 impl Sizes {
@@ -46,21 +49,23 @@ impl Sizes {
             groups: word16(bytes, AT_GROUPS),
             lists: word16(bytes, AT_LISTS),
             categories: word16(bytes, AT_CATEGORIES),
+            text: word16(bytes, AT_TEXT),
         };
         let within = sizes.groups <= MOST_GROUPS
             && sizes.lists <= MOST_LISTS
-            && sizes.categories <= MOST_CATEGORIES;
+            && sizes.categories <= MOST_CATEGORIES
+            && sizes.text <= MOST_TEXT;
         within.then_some(sizes).ok_or(3)
     }
 
-    /// An unknown nature counts as categories here.
+    /// An unknown nature counts as categories here, and the area under every nature.
     fn called_for(&self, nature: u8) -> usize {
         let tail = if is_range(nature) {
             2 * END * self.lists
         } else {
             (1 + WORD) * self.categories
         };
-        HEAD + GROUP * self.groups + tail
+        HEAD + GROUP * self.groups + tail + self.text
     }
 }
 
@@ -109,7 +114,8 @@ impl<'a> Sheet<'a> {
         if columns.is_some_and(|count| !(1..=MOST_COLUMNS).contains(&count)) {
             return None;
         }
-        let (groups, tail) = bytes[HEAD..].split_at(GROUP * sizes.groups);
+        let (arrays, area) = bytes[HEAD..].split_at(bytes.len() - HEAD - sizes.text);
+        let (groups, tail) = arrays.split_at(GROUP * sizes.groups);
         let range = is_range(head[AT_NATURE]);
         let (ends, categories) = tail.split_at(if range { tail.len() } else { 0 });
         let (numbers, values) = categories.split_at(if range { 0 } else { sizes.categories });
@@ -133,6 +139,7 @@ impl<'a> Sheet<'a> {
             ends,
             numbers,
             values,
+            area,
         })
     }
 
@@ -156,6 +163,7 @@ impl<'a> Sheet<'a> {
                 .chunks_exact(END)
                 .all(|end| marked(end[0], word64(end, 1)).is_some())
             && self.categories_permitted()
+            && self.area_permitted()
     }
 
     fn categories_permitted(&self) -> bool {
@@ -170,6 +178,23 @@ impl<'a> Sheet<'a> {
                 .all(|value| word64(value, 0) < 2)
         };
         rising && below && (self.nature != BOOL_LISTS || bools())
+    }
+
+    /// An area belongs to texts alone, which lie end to end in value order, from 0
+    /// to the area's end.
+    fn area_permitted(&self) -> bool {
+        if self.nature != TEXT_LISTS {
+            return self.area.is_empty();
+        }
+        let mut end = 0;
+        for value in self.values.chunks_exact(WORD) {
+            if u64::from(word32(value, 0)) != end {
+                return false;
+            }
+            // In 64 bits: lengths go up to 2^32 - 1.
+            end += u64::from(word32(value, TEXT_LENGTH));
+        }
+        end == self.area.len() as u64
     }
 
     /// Check 5 over the entries of a range.
@@ -220,7 +245,10 @@ impl<'a> Sheet<'a> {
 /// The nature, the data type and the reserved bytes.
 fn bytes_permitted(head: &[u8; HEAD]) -> bool {
     let reserved = &head[AT_RESERVED..AT_VALUES];
-    head[AT_NATURE] <= FLOAT_LISTS && head[AT_TYPE] <= INT && reserved.iter().all(|byte| *byte == 0)
+    head[AT_NATURE] <= TEXT_LISTS
+        && head[AT_TYPE] <= INT
+        && head[AT_GAP] == 0
+        && reserved.iter().all(|byte| *byte == 0)
 }
 
 /// A value under its mark; nothing if the mark is no mark, or an absent value has bits.

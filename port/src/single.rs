@@ -71,7 +71,13 @@ fn binary(
         write::sheet(&fields, nature, out)
     };
     if left.has_lists() && right.has_lists() {
-        let store = categories::binary(component, &left, &right, fields.columns as usize)?;
+        let columns = fields.columns as usize;
+        categories::have_rule(component, &left, &right)?;
+        if left.nature == TEXT_LISTS {
+            let store = categories::joined(&left, &right, columns)?;
+            return finish(&Nature::Texts(&store), out);
+        }
+        let store = categories::combined(component, &left, &right, columns)?;
         return finish(&Nature::Lists(&store), out);
     }
     if !left.has_range() || !right.has_range() {
@@ -87,9 +93,7 @@ fn pool(node: u32, left: &[u8], right: &[u8], out: &mut [u8]) -> Result<usize, R
     let right = Sheet::read(right)?;
     let mut fields = shape::pooled(node, &left, &right)?;
     if left.has_lists() && right.has_lists() {
-        let store = categories::pooled(&left, &right, fields.columns as usize)?;
-        fields.rows = shape::rows_sum(&left, &right)?;
-        return write::sheet(&fields, &Nature::Lists(&store.finish()?), out);
+        return pool_lists(fields, &left, &right, out);
     }
     if !left.has_range() || !right.has_range() {
         fields.rows = shape::rows_sum(&left, &right)?;
@@ -98,6 +102,23 @@ fn pool(node: u32, left: &[u8], right: &[u8], out: &mut [u8]) -> Result<usize, R
     let entries = ranges(POOL, &left, &right, &fields)?;
     fields.rows = shape::rows_sum(&left, &right)?;
     write::sheet(&fields, &Nature::Range(&entries), out)
+}
+
+fn pool_lists(
+    mut fields: Fields,
+    left: &Sheet,
+    right: &Sheet,
+    out: &mut [u8],
+) -> Result<usize, Refusal> {
+    let columns = fields.columns as usize;
+    if left.nature == TEXT_LISTS {
+        let store = categories::pooled(left, right, columns)?;
+        fields.rows = shape::rows_sum(left, right)?;
+        return write::sheet(&fields, &Nature::Texts(&store.finish()?), out);
+    }
+    let store = categories::pooled(left, right, columns)?;
+    fields.rows = shape::rows_sum(left, right)?;
+    write::sheet(&fields, &Nature::Lists(&store.finish()?), out)
 }
 
 /// 17, 18, then 23 and 24 column by column.

@@ -1,6 +1,6 @@
 //! A derived sheet in bytes.
 
-use crate::categories::Store;
+use crate::categories::{Store, Text, Value};
 use crate::form::*;
 use crate::shape::Fields;
 use crate::sheet::Refusal;
@@ -16,7 +16,8 @@ pub struct Entries {
 pub enum Nature<'a> {
     Absent,
     Range(&'a Entries),
-    Lists(&'a Store),
+    Lists(&'a Store<i64>),
+    Texts(&'a Store<Text<'a>>),
 }
 
 impl Nature<'_> {
@@ -25,6 +26,7 @@ impl Nature<'_> {
             Nature::Absent => ABSENT,
             Nature::Range(entries) => entries.nature,
             Nature::Lists(store) => store.kind,
+            Nature::Texts(store) => store.kind,
         }
     }
 
@@ -33,6 +35,15 @@ impl Nature<'_> {
             Nature::Absent => (0, 0),
             Nature::Range(entries) => (entries.count, 0),
             Nature::Lists(store) => (store.lists, store.count),
+            Nature::Texts(store) => (store.lists, store.count),
+        }
+    }
+
+    /// The size of the text area.
+    fn text_length(&self) -> usize {
+        match self {
+            Nature::Texts(store) => store.text_length(),
+            _ => 0,
         }
     }
 }
@@ -44,7 +55,7 @@ pub fn sheet(fields: &Fields, nature: &Nature, out: &mut [u8]) -> Result<usize, 
         Nature::Range(_) => 2 * END * lists,
         _ => (1 + WORD) * categories,
     };
-    let length = HEAD + fields.groups.len() + tail;
+    let length = HEAD + fields.groups.len() + tail + nature.text_length();
     let out = out.get_mut(..length).ok_or(27u32)?;
     let (head, rest) = out.split_at_mut(HEAD);
     write_head(fields, nature, head);
@@ -60,6 +71,7 @@ pub fn sheet(fields: &Fields, nature: &Nature, out: &mut [u8]) -> Result<usize, 
                 place.copy_from_slice(&value.to_le_bytes());
             }
         }
+        Nature::Texts(store) => write_texts(store, rest),
     }
     Ok(length)
 }
@@ -70,6 +82,23 @@ fn write_entries(entries: &Entries, out: &mut [u8]) {
     for (place, end) in out.chunks_exact_mut(END).zip(lowers.iter().chain(uppers)) {
         place[0] = end.is_some() as u8;
         place[1..].copy_from_slice(&end.unwrap_or(0).to_le_bytes());
+    }
+}
+
+/// Values with running starts, and the texts end to end behind them.
+fn write_texts(store: &Store<Text>, out: &mut [u8]) {
+    let (numbers, rest) = out.split_at_mut(store.count);
+    let (values, area) = rest.split_at_mut(WORD * store.count);
+    numbers.copy_from_slice(&store.numbers[..store.count]);
+    let mut start = 0;
+    for (place, text) in values.chunks_exact_mut(WORD).zip(&store.values) {
+        let length = text.text_length();
+        place[..TEXT_LENGTH].copy_from_slice(&(start as u32).to_le_bytes());
+        place[TEXT_LENGTH..].copy_from_slice(&(length as u32).to_le_bytes());
+        for (byte, from) in area[start..start + length].iter_mut().zip(text.bytes()) {
+            *byte = *from;
+        }
+        start += length;
     }
 }
 
@@ -99,6 +128,8 @@ fn write_head(fields: &Fields, nature: &Nature, head: &mut [u8]) {
         fields.sample,
     ];
     put(AT_MARKS, &values.map(|value| u8::from(value.is_some())));
+    put(AT_GAP, &[0]);
+    put(AT_TEXT, &(nature.text_length() as u16).to_le_bytes());
     put(AT_RESERVED, &[0; AT_VALUES - AT_RESERVED]);
     for (place, value) in values.iter().enumerate() {
         put(AT_VALUES + WORD * place, &value.unwrap_or(0).to_le_bytes());

@@ -37,7 +37,7 @@ fn outcome(reply: u64) -> Result<usize, (Refusal, u32)> {
     }
     match Refusal::from_code(code) {
         Some(refusal) => Err((refusal, value)),
-        // The proof gives codes 0 to 27: any other comes from a library made for another contract.
+        // The proof gives codes 0 to 28: any other comes from a library made for another contract.
         None => unreachable!("the static library answered with code {code}, which this runtime does not know"),
     }
 }
@@ -46,9 +46,10 @@ fn outcome(reply: u64) -> Result<usize, (Refusal, u32)> {
 /// Later bytes of `out` stay as they are, and after a refusal all of them do. Abs and negative do not read `right`.
 ///
 /// ```
+/// use gate_runtime::form::plan::SLOT;
 /// use gate_runtime::{propagate_property, DataType, Nature, Refusal, Sheet};
 /// let left = Sheet::new(DataType::Int, Nature::whole_range(&[[-5, 3]])).encode();
-/// let mut out = [0; 1284];
+/// let mut out = [0; SLOT];
 /// let length = propagate_property(9, 0, &left, &[], &mut out).unwrap();
 /// assert_eq!(length, left.len());
 /// assert_eq!(propagate_property(0, 0, &left, &[], &mut out), Err(Refusal::NoSuchComponent));

@@ -33,7 +33,8 @@ impl Sheet {
         let sizes = form.check_sizes(bytes)?;
         let reader = Reader { form, bytes, sizes };
         let values = reader.values()?;
-        reader.zeros("reserved bytes", form.fields_at + field::RESERVED, form.fields_at + field::VALUES)?;
+        reader.zeros("reserved bytes", form.fields_at + field::BEFORE_TEXT, form.fields_at + field::TEXT)?;
+        reader.zeros("reserved bytes", form.fields_at + field::BEHIND_TEXT, form.fields_at + field::VALUES)?;
         reader.zeros("bytes before the arrays", form.fields_at + field::END, form.arrays_at)?;
         Ok(Sheet {
             data_type: reader.data_type()?,
@@ -155,17 +156,19 @@ impl Reader<'_> {
     }
 
     fn nature(&self) -> Result<Nature, Fault> {
-        let (lists, categories) = (self.sizes.lists, self.sizes.categories);
+        let Sizes { lists, categories, text, .. } = self.sizes;
         match self.field(field::NATURE, BYTE) {
+            6 => self.texts().map(Nature::TextCategories),
+            0..=5 if text != 0 => bad(format!("bytes of text: {text}, permitted 0 unless the categories are text")),
             0 if lists == 0 && categories == 0 => Ok(Nature::Absent),
             0 => bad(format!("nature absent: {lists} lists and {categories} categories, permitted 0")),
             1 | 2 if categories != 0 => bad(format!("categories: {categories}, permitted 0 for a range")),
             1 => self.entries(|bits| bits as i64).map(Nature::WholeRange),
             2 => self.entries(f64::from_bits).map(Nature::FloatRange),
-            3 => self.lists(|bits| Some(bits as i64)).map(Nature::WholeCategories),
+            3 => self.lists(|_, bits| Ok(bits as i64)).map(Nature::WholeCategories),
             4 => self.lists(bool_of).map(Nature::BoolCategories),
-            5 => self.lists(|bits| Some(f64::from_bits(bits))).map(Nature::FloatCategories),
-            other => bad(format!("nature: {other}, permitted 0 to 5")),
+            5 => self.lists(|_, bits| Ok(f64::from_bits(bits))).map(Nature::FloatCategories),
+            other => bad(format!("nature: {other}, permitted 0 to 6")),
         }
     }
 
@@ -180,7 +183,8 @@ impl Reader<'_> {
             .collect()
     }
 
-    fn lists<T>(&self, value: fn(u64) -> Option<T>) -> Result<Vec<Vec<T>>, Fault> {
+    /// `value` reads a category's bits; categories are counted from 1 there.
+    fn lists<T>(&self, mut value: impl FnMut(usize, u64) -> Result<T, Fault>) -> Result<Vec<Vec<T>>, Fault> {
         let width = self.form.list_number_width;
         let values_at = self.nature_at() + self.sizes.categories * width;
         let mut lists: Vec<Vec<T>> = (0..self.sizes.lists).map(|_| Vec::new()).collect();
@@ -192,22 +196,42 @@ impl Reader<'_> {
                 return bad(format!("category {category}: list number {number} after {last}, permitted never to fall"));
             }
             last = number;
-            let bits = self.at(values_at + place * VALUE, VALUE);
-            match (lists.get_mut(number), value(bits)) {
-                (Some(list), Some(value)) => list.push(value),
-                (None, _) => return bad(format!("category {category}: list number {number}, permitted below {}", self.sizes.lists)),
-                (_, None) => return bad(format!("category {category}: bool value {}, permitted 0 or 1", bits as i64)),
+            let Some(list) = lists.get_mut(number) else {
+                return bad(format!("category {category}: list number {number}, permitted below {}", self.sizes.lists));
+            };
+            list.push(value(category, self.at(values_at + place * VALUE, VALUE))?);
+        }
+        Ok(lists)
+    }
+
+    /// Texts lie end to end in value order, from 0 to the area's end.
+    fn texts(&self) -> Result<Vec<Vec<Vec<u8>>>, Fault> {
+        let area = &self.bytes[self.bytes.len() - self.sizes.text..];
+        let mut end = 0;
+        let lists = self.lists(|category, bits| {
+            // Of 32 bits each, so that their sum does not wrap in 64.
+            let (start, length) = (bits & u64::from(u32::MAX), bits >> 32);
+            if start != end {
+                return bad(format!("category {category}: its text starts at {start}, permitted {end}"));
             }
+            end = start + length;
+            match area.get(start as usize..end as usize) {
+                Some(text) => Ok(text.to_vec()),
+                None => bad(format!("category {category}: its text ends at {end}, permitted to {}", area.len())),
+            }
+        })?;
+        if end != area.len() as u64 {
+            return bad(format!("bytes of text: {}, the texts end at {end}", area.len()));
         }
         Ok(lists)
     }
 }
 
-fn bool_of(bits: u64) -> Option<bool> {
+fn bool_of(category: usize, bits: u64) -> Result<bool, Fault> {
     match bits {
-        0 => Some(false),
-        1 => Some(true),
-        _ => None,
+        0 => Ok(false),
+        1 => Ok(true),
+        _ => bad(format!("category {category}: bool value {}, permitted 0 or 1", bits as i64)),
     }
 }
 
@@ -216,8 +240,17 @@ mod tests {
     use super::*;
 
     /// A wider form: sizes of 4 bytes, fields moved by 6, list numbers of 2 bytes.
-    const WIDE: Form =
-        Form { size_width: 4, fields_at: 12, arrays_at: 88, list_number_width: 2, groups: 4, lists: 64, categories: 1024, columns: 64 };
+    const WIDE: Form = Form {
+        size_width: 4,
+        fields_at: 12,
+        arrays_at: 88,
+        list_number_width: 2,
+        groups: 4,
+        lists: 64,
+        categories: 1024,
+        columns: 64,
+        text: 1024,
+    };
 
     fn sheet(lists: Vec<Vec<i64>>) -> Sheet {
         let mut sheet = Sheet::new(DataType::Int, Nature::WholeCategories(lists)).with_rows(-3);
@@ -234,14 +267,58 @@ mod tests {
         assert_eq!(bytes.len(), 88 + 2 * 13 + 1024 * 10);
         assert_eq!(Sheet::decode_as(&WIDE, &bytes).unwrap().encode_as(&WIDE), bytes);
         assert_eq!(Sheet::decode(&wide.encode()).unwrap_err().what, "lists: 64, at most 16");
-        let narrow = sheet(vec![vec![1, 2], vec![]]);
-        let moved = Sheet::decode_as(&WIDE, &narrow.encode_as(&WIDE)).unwrap();
-        assert_eq!(moved.encode(), narrow.encode());
+        let texts = Sheet::new(DataType::Str, Nature::text_categories(&[&["pump", ""], &["fan"]]));
+        for narrow in [sheet(vec![vec![1, 2], vec![]]), texts] {
+            let moved = Sheet::decode_as(&WIDE, &narrow.encode_as(&WIDE)).unwrap();
+            assert_eq!(moved.encode(), narrow.encode());
+        }
     }
 
     #[test]
-    fn the_narrow_form_has_document_01s_lengths() {
-        assert_eq!(NARROW.longest(), 1284);
+    fn the_forms_have_their_lengths() {
+        assert_eq!(NARROW.longest(), 80 + 52 + 1152 + 1024);
+        assert_eq!(crate::form::plan::SLOT, 2308);
+        assert_eq!(WIDE.longest(), 11_404);
         assert_eq!(sheet(vec![vec![1, 2], vec![]]).encode().len(), 80 + 2 * 13 + 2 * 9);
+    }
+
+    fn texts(values: &[(u32, u32)], area: &[u8]) -> Vec<u8> {
+        let mut bytes = Sheet::new(DataType::Str, Nature::text_categories::<&str>(&[&[]])).encode();
+        bytes[4] = values.len() as u8;
+        bytes[26] = area.len() as u8;
+        bytes.extend(values.iter().map(|_| 0));
+        for (start, length) in values {
+            bytes.extend(start.to_le_bytes());
+            bytes.extend(length.to_le_bytes());
+        }
+        [&bytes, area].concat()
+    }
+
+    #[test]
+    fn texts_lie_end_to_end() {
+        let sheet = Sheet::new(DataType::Str, Nature::text_categories(&[&["pump", "fan"]]));
+        assert_eq!(sheet.encode(), texts(&[(0, 4), (4, 3)], b"pumpfan"));
+        assert_eq!(sheet.encode().len(), 105);
+        assert_eq!(Sheet::decode(&texts(&[(0, 2), (2, 0)], b"ab")).unwrap().nature.categories(), 2);
+        for (values, area, what) in [
+            (&[(1, 1), (0, 1)][..], "ab", "category 1: its text starts at 1, permitted 0"),
+            (&[(0, 2), (0, 2)], "ab", "category 2: its text starts at 0, permitted 2"),
+            (&[(0, 1), (1, 0)], "ab", "bytes of text: 2, the texts end at 1"),
+            (&[(0, 0), (1, 1)], "ab", "category 2: its text starts at 1, permitted 0"),
+            (&[(0, 1), (1, 2)], "ab", "category 2: its text ends at 3, permitted to 2"),
+            (&[(0, u32::MAX), (u32::MAX, 3)], "ab", "category 1: its text ends at 4294967295, permitted to 2"),
+            (&[], "ab", "bytes of text: 2, the texts end at 0"),
+        ] {
+            let fault = Sheet::decode(&texts(values, area.as_bytes())).unwrap_err();
+            assert_eq!((fault.refusal, fault.what.as_str()), (Refusal::FieldValue, what));
+        }
+    }
+
+    #[test]
+    fn a_size_over_its_limit_is_a_fault_and_not_cut() {
+        let of = |length: usize| Sheet::new(DataType::Str, Nature::text_categories(&[&[vec![b'a'; length]]]));
+        assert_eq!(Sheet::decode(&of(1024).encode()).unwrap(), of(1024));
+        assert_eq!(Sheet::decode(&of(1025).encode()).unwrap_err().what, "bytes of text: 1025, at most 1024");
+        assert_eq!(Sheet::decode(&of(70_000).encode()).unwrap_err().what, "bytes of text: 65535, at most 1024");
     }
 }

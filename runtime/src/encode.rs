@@ -1,6 +1,6 @@
 //! Sheets into bytes.
 
-use crate::form::{field, Form, BYTE, NARROW, NUMBER, VALUE};
+use crate::form::{field, Form, BYTE, NARROW, NUMBER, TEXT_SIZE, VALUE};
 use crate::le::{append, capped};
 use crate::nature::{Bound, Nature};
 use crate::sheet::{Key, Sheet};
@@ -39,6 +39,8 @@ impl Sheet {
         for value in values {
             append(bytes, value.is_some().into(), BYTE);
         }
+        bytes.resize(form.fields_at + field::TEXT, 0);
+        append(bytes, capped(self.nature.text_size(), TEXT_SIZE), TEXT_SIZE);
         bytes.resize(form.fields_at + field::VALUES, 0);
         for value in values {
             append(bytes, value.unwrap_or(0), VALUE);
@@ -70,9 +72,10 @@ impl Sheet {
     fn put_nature(&self, form: &Form, bytes: &mut Vec<u8>) {
         let width = form.list_number_width;
         match &self.nature {
-            Nature::WholeCategories(lists) => put_lists(bytes, width, lists, |v| v as u64),
-            Nature::BoolCategories(lists) => put_lists(bytes, width, lists, u64::from),
-            Nature::FloatCategories(lists) => put_lists(bytes, width, lists, f64::to_bits),
+            Nature::WholeCategories(lists) => put_lists(bytes, width, lists, |v| *v as u64),
+            Nature::BoolCategories(lists) => put_lists(bytes, width, lists, |v| u64::from(*v)),
+            Nature::FloatCategories(lists) => put_lists(bytes, width, lists, |v| v.to_bits()),
+            Nature::TextCategories(lists) => put_texts(bytes, width, lists),
             ranges => put_entries(bytes, ranges),
         }
     }
@@ -100,13 +103,24 @@ fn put_bound(bytes: &mut Vec<u8>, bound: Bound) {
 }
 
 /// The list number of every category, then every value.
-fn put_lists<T: Copy>(bytes: &mut Vec<u8>, width: usize, lists: &[Vec<T>], bits: fn(T) -> u64) {
+fn put_lists<T>(bytes: &mut Vec<u8>, width: usize, lists: &[Vec<T>], mut bits: impl FnMut(&T) -> u64) {
     for (number, list) in lists.iter().enumerate() {
         for _ in list {
             append(bytes, capped(number, width), width);
         }
     }
     for value in lists.iter().flatten() {
-        append(bytes, bits(*value), VALUE);
+        append(bytes, bits(value), VALUE);
     }
+}
+
+/// Each text's start and length, 32 bits each, and behind them the texts end to end.
+fn put_texts(bytes: &mut Vec<u8>, width: usize, lists: &[Vec<Vec<u8>>]) {
+    let mut end = 0;
+    put_lists(bytes, width, lists, |text| {
+        let start = end;
+        end += text.len();
+        capped(start, NUMBER) | capped(text.len(), NUMBER) << 32
+    });
+    lists.iter().flatten().for_each(|text| bytes.extend_from_slice(text));
 }

@@ -26,11 +26,22 @@ pub struct Form {
     pub categories: usize,
     /// Most columns.
     pub columns: i64,
+    /// Most bytes of text, over all lists.
+    pub text: usize,
 }
 
-/// The form of document 01.
-pub const NARROW: Form =
-    Form { size_width: 2, fields_at: 6, arrays_at: 80, list_number_width: 1, groups: 4, lists: 16, categories: 128, columns: 16 };
+/// The form of document 01, with document 02's text area behind the arrays.
+pub const NARROW: Form = Form {
+    size_width: 2,
+    fields_at: 6,
+    arrays_at: 80,
+    list_number_width: 1,
+    groups: 4,
+    lists: 16,
+    categories: 128,
+    columns: 16,
+    text: 1024,
+};
 
 /// Distances from the nature byte.
 pub mod field {
@@ -52,8 +63,12 @@ pub mod field {
     pub const AGGREGATOR: usize = 10;
     /// Marks of presence of the five values.
     pub const MARKS: usize = 14;
-    /// Bytes that are zero.
-    pub const RESERVED: usize = 19;
+    /// A byte that is zero, before the text area's size.
+    pub const BEFORE_TEXT: usize = 19;
+    /// The text area's size, 16 bits in every form.
+    pub const TEXT: usize = 20;
+    /// Bytes that are zero, behind the text area's size.
+    pub const BEHIND_TEXT: usize = 22;
     /// The five values, 64 bits each.
     pub const VALUES: usize = 26;
     /// The node number, 64 bits.
@@ -68,6 +83,8 @@ pub const BYTE: usize = 1;
 pub const VALUE: usize = 8;
 /// Bytes of a 32-bit field.
 pub const NUMBER: usize = 4;
+/// Bytes of the text area's size.
+pub const TEXT_SIZE: usize = 2;
 /// Bytes of a group: its partition id, and its index with the kind.
 const GROUP: usize = NUMBER + BYTE + VALUE;
 /// Bytes of a range entry: two bounds with their marks.
@@ -76,7 +93,7 @@ const ENTRY: usize = 2 * (BYTE + VALUE);
 /// Numbers of the two natures that are ranges: these alone decide what the lists count.
 const RANGES: [u64; 2] = [1, 2];
 
-/// The three sizes of a sheet.
+/// The sizes of a sheet: the three that stand first, and the text area's.
 #[derive(Clone, Copy, Debug, PartialEq, Eq)]
 pub struct Sizes {
     /// Groups.
@@ -85,6 +102,8 @@ pub struct Sizes {
     pub lists: usize,
     /// Categories over all lists.
     pub categories: usize,
+    /// Bytes of text.
+    pub text: usize,
 }
 
 impl Form {
@@ -93,21 +112,22 @@ impl Form {
         let ranges = self.lists * ENTRY;
         let categories = self.categories * (self.list_number_width + VALUE);
         let arrays = if ranges > categories { ranges } else { categories };
-        self.arrays_at + self.groups * GROUP + arrays
+        self.arrays_at + self.groups * GROUP + arrays + self.text
     }
 
-    /// The three sizes as the bytes state them.
+    /// The sizes as the bytes state them.
     pub fn sizes(&self, bytes: &[u8]) -> Sizes {
         let size = |k: usize| number_at(bytes, k * self.size_width, self.size_width) as usize;
-        Sizes { groups: size(0), lists: size(1), categories: size(2) }
+        let text = number_at(bytes, self.fields_at + field::TEXT, TEXT_SIZE) as usize;
+        Sizes { groups: size(0), lists: size(1), categories: size(2), text }
     }
 
-    /// The length that the stated sizes call for.
+    /// The length that the stated sizes call for: the text area counts under any nature.
     pub fn called_for(&self, bytes: &[u8]) -> usize {
         let sizes = self.sizes(bytes);
         let nature = number_at(bytes, self.fields_at + field::NATURE, BYTE);
         let arrays = if RANGES.contains(&nature) { sizes.lists * ENTRY } else { sizes.categories * (self.list_number_width + VALUE) };
-        self.arrays_at + sizes.groups * GROUP + arrays
+        self.arrays_at + sizes.groups * GROUP + arrays + sizes.text
     }
 
     /// The sheet at the start of a slot: as many bytes as its sizes call for.
@@ -123,8 +143,12 @@ impl Form {
             return size(format!("length: {found} bytes, at least {}", self.arrays_at));
         }
         let sizes = self.sizes(bytes);
-        let limits =
-            [("groups", sizes.groups, self.groups), ("lists", sizes.lists, self.lists), ("categories", sizes.categories, self.categories)];
+        let limits = [
+            ("groups", sizes.groups, self.groups),
+            ("lists", sizes.lists, self.lists),
+            ("categories", sizes.categories, self.categories),
+            ("bytes of text", sizes.text, self.text),
+        ];
         for (name, count, limit) in limits {
             if count > limit {
                 return size(format!("{name}: {count}, at most {limit}"));

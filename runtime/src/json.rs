@@ -4,6 +4,7 @@
 
 use crate::cards::{Card, Outcome, Stop, Walked};
 use crate::nature::{Bound, Nature};
+use crate::quotes::{escaped, is_hidden};
 use crate::sheet::{Group, Key, Sheet};
 use crate::show;
 use crate::text::Problem;
@@ -115,7 +116,8 @@ fn write_text(value: &str, text: &mut String) {
             '\\' => text.push_str("\\\\"),
             '\n' => text.push_str("\\n"),
             '\t' => text.push_str("\\t"),
-            c if c.is_control() => text.push_str(&format!("\\u{:04x}", c as u32)),
+            // Beyond 16 bits JSON has two escapes for one character.
+            c if is_hidden(c) => c.encode_utf16(&mut [0; 2]).iter().for_each(|unit| text.push_str(&format!("\\u{unit:04x}"))),
             c => text.push(c),
         }
     }
@@ -210,6 +212,7 @@ fn nature(nature: &Nature) -> (Json, Json) {
         Nature::WholeCategories(lists) => (Json::Null, categories(lists, Json::whole)),
         Nature::BoolCategories(lists) => (Json::Null, categories(lists, Json::Bool)),
         Nature::FloatCategories(lists) => (Json::Null, categories(lists, Json::float)),
+        Nature::TextCategories(lists) => (Json::Null, texts(lists)),
         ranges => {
             let entries = (0..ranges.lists()).filter_map(|place| ranges.entry(place));
             (Json::list(entries, entry), Json::Null)
@@ -219,6 +222,11 @@ fn nature(nature: &Nature) -> (Json, Json) {
 
 fn categories<T: Copy>(lists: &[Vec<T>], json: fn(T) -> Json) -> Json {
     Json::list(lists, |list| Json::list(list, |value| json(*value)))
+}
+
+/// JSON's strings are no bytes: a text is as it stands between its quotes on a card, with the same escapes.
+fn texts(lists: &[Vec<Vec<u8>>]) -> Json {
+    Json::list(lists, |list| Json::list(list, |text| Json::text(escaped(text))))
 }
 
 fn entry(entry: (Bound, Bound)) -> Json {

@@ -25,6 +25,7 @@ pub mod causes;
 pub mod command;
 pub mod form;
 pub mod json;
+pub mod quotes;
 pub mod show;
 pub mod svg;
 pub mod text;

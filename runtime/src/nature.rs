@@ -48,6 +48,8 @@ pub enum Nature {
     BoolCategories(Vec<Vec<bool>>),
     /// Lists of floats.
     FloatCategories(Vec<Vec<f64>>),
+    /// Lists of texts, each of which is any bytes.
+    TextCategories(Vec<Vec<Vec<u8>>>),
 }
 
 impl Nature {
@@ -67,7 +69,20 @@ impl Nature {
         Nature::FloatRange(entries.iter().map(|&entry| entry.into()).collect())
     }
 
-    /// Document 01's number.
+    /// Lists of texts.
+    ///
+    /// ```
+    /// use gate_runtime::{show, Nature};
+    /// let pumps = Nature::text_categories(&[&["north", "south"]]);
+    /// assert_eq!(show::nature(&pumps), r#"{"north", "south"}"#);
+    /// assert_eq!(pumps.text_size(), 10);
+    /// ```
+    pub fn text_categories<T: AsRef<[u8]>>(lists: &[&[T]]) -> Nature {
+        let list = |list: &&[T]| list.iter().map(|text| text.as_ref().to_vec()).collect();
+        Nature::TextCategories(lists.iter().map(list).collect())
+    }
+
+    /// The number of document 01, or of document 02 for text.
     pub fn number(&self) -> u8 {
         match self {
             Nature::Absent => 0,
@@ -76,6 +91,7 @@ impl Nature {
             Nature::WholeCategories(_) => 3,
             Nature::BoolCategories(_) => 4,
             Nature::FloatCategories(_) => 5,
+            Nature::TextCategories(_) => 6,
         }
     }
 
@@ -88,6 +104,7 @@ impl Nature {
             Nature::WholeCategories(_) => "whole categories",
             Nature::BoolCategories(_) => "bool categories",
             Nature::FloatCategories(_) => "float categories",
+            Nature::TextCategories(_) => "text categories",
         }
     }
 
@@ -105,6 +122,7 @@ impl Nature {
             Nature::WholeCategories(lists) => lists.len(),
             Nature::BoolCategories(lists) => lists.len(),
             Nature::FloatCategories(lists) => lists.len(),
+            Nature::TextCategories(lists) => lists.len(),
         }
     }
 
@@ -114,6 +132,15 @@ impl Nature {
             Nature::WholeCategories(lists) => lists.iter().map(Vec::len).sum(),
             Nature::BoolCategories(lists) => lists.iter().map(Vec::len).sum(),
             Nature::FloatCategories(lists) => lists.iter().map(Vec::len).sum(),
+            Nature::TextCategories(lists) => lists.iter().map(Vec::len).sum(),
+            _ => 0,
+        }
+    }
+
+    /// Bytes of text over all lists, a repeat counted each time.
+    pub fn text_size(&self) -> usize {
+        match self {
+            Nature::TextCategories(lists) => lists.iter().flatten().map(Vec::len).sum(),
             _ => 0,
         }
     }

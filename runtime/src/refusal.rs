@@ -60,21 +60,23 @@ pub enum Refusal {
     TooManyCategories = 26,
     /// 27: The output is too short.
     OutputTooShort = 27,
+    /// 28: The result's text exceeds 1,024 bytes after repeats go.
+    TooMuchText = 28,
 }
 
 /// A refusal, its sentence, and what a person can do about it.
 type Row = (Refusal, &'static str, &'static str);
 
 /// By number.
-const TABLE: [Row; 27] = [
+const TABLE: [Row; 28] = [
     (Refusal::MalformedPlan, "The plan is malformed.",
      "The bytes of a plan have another length than its sizes call for, there are no nodes or more than 32, no leaves or more leaves than nodes, a component is not 1 to 10, an operand is not an earlier node, or abs or negative names two different operands. The command `gate cards` writes plans that never meet it."),
     (Refusal::NoSuchComponent, "The component is not 1 to 10.",
      "Only a single call can meet it; in a plan the same fault is refusal 1."),
     (Refusal::SheetSize, "A sheet's size exceeds its limit, or its length isn't what its sizes call for.",
-     "A sheet holds at most 4 groups, 16 ranges or category lists, and 128 categories over all its lists."),
+     "A sheet holds at most 4 groups, 16 ranges or category lists, 128 categories over all its lists, and 1,024 bytes of text. Its length is what these sizes call for, 2,308 bytes at most; the text counts under any nature."),
     (Refusal::FieldValue, "A field has none of its permitted values.",
-     "Columns are 1 to 16; marks are 0 or 1; natures, data types and kinds have their listed numbers; list numbers never fall and stay below the list count; absent values and reserved bytes are zero."),
+     "Columns are 1 to 16; marks are 0 or 1; natures, data types and kinds have their listed numbers; list numbers never fall and stay below the list count; absent values and reserved bytes are zero. Texts lie end to end in the order of their values, from 0 to the end of the text area, which is empty unless the categories are text."),
     (Refusal::BadBound, "A float bound is infinite or NaN, or a lower bound exceeds its upper.",
      "A leaf's range must have its lower end first. A derived range can come out this way too, by subtract of two ranges or by a float overflow: the step that made it is accepted, and the step that reads it is refused."),
     (Refusal::Aggregated, "An operand that isn't releasable has an aggregator.",
@@ -110,7 +112,7 @@ const TABLE: [Row; 27] = [
     (Refusal::CategoryKindsDiffer, "The category kinds differ.",
      "Both operands need categories of one kind."),
     (Refusal::NoCategoryRule, "The component has no rule for this category kind.",
-     "No component computes with bool categories (pool unites them), and power of type float with no categories at all."),
+     "No component computes with bool categories, and only add with text categories: it joins left text and right text. Pool unites both kinds. Power of type float has no rule for any categories."),
     (Refusal::DivideMayMeetZero, "Divide may meet zero.",
      "It is said of a divisor whose lower end is absent while its upper end is absent or is 0 or above, and of one whose upper end is absent while its lower end is 0 or below. State the missing end, or a divisor on one side of zero."),
     (Refusal::WholeOverflow, "Whole-number arithmetic leaves 64 signed bits, or a category divides by zero.",
@@ -120,7 +122,9 @@ const TABLE: [Row; 27] = [
     (Refusal::TooManyCategories, "The result holds over 128 categories, counted as they would be written.",
      "Repeats within a list are dropped before counting, except those that abs and negative make. A single list goes with every output column and then counts once for each."),
     (Refusal::OutputTooShort, "The output is too short.",
-     "A single call needs as many bytes as the derived sheet has, at most 1,284. A plan call needs 1,284 bytes of work buffer for each node. The command `gate cards` always lends enough."),
+     "A single call needs as many bytes as the derived sheet has, at most 2,308. A plan call needs 2,308 bytes of work buffer for each node. The command `gate cards` always lends enough."),
+    (Refusal::TooMuchText, "The result's text exceeds 1,024 bytes after repeats go.",
+     "Add joins every left text with every right text, and pool takes the texts of both; of equal ones the first stays. The lists count as they would be written: a single list goes with every output column and then counts once for each. Take shorter texts, fewer of them, or fewer columns. It is tested directly after 26."),
 ];
 
 impl Refusal {
@@ -128,7 +132,7 @@ impl Refusal {
     ///
     /// ```
     /// use gate_runtime::Refusal;
-    /// assert_eq!(Refusal::all().count(), 27);
+    /// assert_eq!(Refusal::all().count(), 28);
     /// ```
     pub fn all() -> impl Iterator<Item = Refusal> {
         TABLE.iter().map(|row| row.0)
@@ -182,6 +186,7 @@ impl Error for Refusal {}
 #[cfg(test)]
 mod tests {
     use super::*;
+    use crate::form::NARROW;
 
     #[test]
     fn rows_stand_by_number() {
@@ -190,6 +195,10 @@ mod tests {
             assert_eq!(Refusal::from_code(refusal.code()), Some(refusal));
             assert!(refusal.sentence().ends_with('.') && refusal.explain().ends_with('.'));
         }
-        assert_eq!(Refusal::from_code(28), None);
+        assert_eq!(Refusal::from_code(29), None);
+        // Texts name the limits in figures.
+        assert_eq!((NARROW.longest(), NARROW.text), (2308, 1024));
+        assert!(Refusal::SheetSize.explain().contains("2,308") && Refusal::OutputTooShort.explain().contains("2,308"));
+        assert!(Refusal::SheetSize.explain().contains("1,024") && Refusal::TooMuchText.sentence().contains("1,024"));
     }
 }

@@ -1,6 +1,7 @@
 //! Bounds, natures and marks as people read them: both signs are always written.
 
 use crate::nature::{Bound, Nature};
+use crate::quotes::quoted;
 use crate::sheet::{Group, Key, Sheet};
 
 /// A lower end: `-5`, `+0.5`, `-inf` if absent. A float end that overflowed is `+overflow` or `-overflow`, so that it is not taken for an absent one.
@@ -45,14 +46,14 @@ pub fn entry((low, high): (Bound, Bound)) -> String {
 
 /// The members of each list, or the entries of a range, in words.
 pub fn items(nature: &Nature) -> Vec<Vec<String>> {
-    fn each<T: Copy>(lists: &[Vec<T>], word: fn(T) -> String) -> Vec<Vec<String>> {
-        let list = |list: &Vec<T>| list.iter().map(|&v| word(v)).collect();
-        lists.iter().map(list).collect()
+    fn each<T>(lists: &[Vec<T>], word: impl Fn(&T) -> String) -> Vec<Vec<String>> {
+        lists.iter().map(|list| list.iter().map(&word).collect()).collect()
     }
     match nature {
-        Nature::WholeCategories(lists) => each(lists, whole),
-        Nature::BoolCategories(lists) => each(lists, |v| v.to_string()),
-        Nature::FloatCategories(lists) => each(lists, category),
+        Nature::WholeCategories(lists) => each(lists, |v| whole(*v)),
+        Nature::BoolCategories(lists) => each(lists, bool::to_string),
+        Nature::FloatCategories(lists) => each(lists, |v| category(*v)),
+        Nature::TextCategories(lists) => each(lists, |text| quoted(text)),
         ranges => (0..).map_while(|place| ranges.entry(place)).map(|e| vec![entry(e)]).collect(),
     }
 }
@@ -65,7 +66,7 @@ fn category(number: f64) -> String {
     float(number)
 }
 
-/// A nature on one line: `[-5, +3]`, `[-5, +3] [+0, +7]`, `{+1, +2}`, `absent`.
+/// A nature on one line: `[-5, +3]`, `[-5, +3] [+0, +7]`, `{+1, +2}`, `{"north"}`, `absent`.
 pub fn nature(nature: &Nature) -> String {
     if let Nature::Absent = nature {
         return "absent".to_string();

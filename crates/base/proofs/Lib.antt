@@ -15,3 +15,5 @@ pub mod Holding
 pub mod Passed
 pub mod Permitted
 pub mod Natures
+pub mod Lists
+pub mod EndToEnd

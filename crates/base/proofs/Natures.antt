@@ -6,9 +6,9 @@ use Prim.Native.Nat.{ℕ}
 use native.Mathlib.Omega.{arith}
 use lib.Dec.{T, eqb}
 use borrow.Author.Tests.{eqb-true}
-use Rattle.base.specs.Form.{Form, natureAt, byteAt, groupCount, listCount, absentNature, wholeRangeNature, floatRangeNature, wholeListsNature, boolListsNature, floatListsNature, isRangeNature}
-use Rattle.base.specs.Sheet.{Nature, absent, wholeRange, floatRange, wholeLists, boolLists, floatLists}
-use Rattle.base.specs.Decode.{asWhole, asFloat, asBits, spanAt, entries, lists, natureIn}
+use Rattle.base.specs.Form.{Form, natureAt, byteAt, groupCount, listCount, absentNature, wholeRangeNature, floatRangeNature, wholeListsNature, boolListsNature, floatListsNature, textListsNature, isRangeNature}
+use Rattle.base.specs.Sheet.{Nature, absent, wholeRange, floatRange, wholeLists, boolLists, floatLists, textLists}
+use Rattle.base.specs.Decode.{asWhole, asFloat, asBits, spanAt, entries, lists, textIn, natureIn}
 use Rattle.base.specs.Checks.{holdsFrom, boundsFail, wholeHolds, floatHolds}
 use Rattle.base.specs.Entries.{entryHolds}
 use Rattle.base.proofs.Flags.{or-no}
@@ -35,6 +35,10 @@ module _ (F : Form) (s : List ℕ) where
   pub nature-float-lists : byteAt F natureAt s ≡ floatListsNature → natureIn F s ≡ floatLists (lists F s asBits)
   unfolding natureIn
   nature-float-lists e = rw e
+
+  pub nature-text-lists : byteAt F natureAt s ≡ textListsNature → natureIn F s ≡ textLists (lists F s (textIn F s))
+  unfolding natureIn
+  nature-text-lists e = rw e
 
   pub nature-absent : byteAt F natureAt s ≡ absentNature → natureIn F s ≡ absent
   unfolding natureIn
@@ -65,11 +69,12 @@ module _ (F : Form) (s : List ℕ) where
   no-range-passes h =
       let k = byteAt F natureAt s in
       let no = or-no (eqb k wholeRangeNature) (eqb k floatRangeNature) h in
-      rw (no .0, no .1) (go (eqb k wholeListsNature) (eqb k boolListsNature) (eqb k floatListsNature))
+      rw (no .0, no .1) (go (eqb k wholeListsNature) (eqb k boolListsNature) (eqb k floatListsNature) (eqb k textListsNature))
     where
-      go : (a b c : Bool)
-          → boundsFail (cond a (wholeLists (lists F s asWhole)) (cond b (boolLists (lists F s asBits)) (cond c (floatLists (lists F s asBits)) absent))) ≡ false
-      go true b c = refl
-      go false true c = refl
-      go false false true = refl
-      go false false false = refl
+      go : (a b c d : Bool)
+          → boundsFail (cond a (wholeLists (lists F s asWhole)) (cond b (boolLists (lists F s asBits)) (cond c (floatLists (lists F s asBits)) (cond d (textLists (lists F s (textIn F s))) absent)))) ≡ false
+      go true b c d = refl
+      go false true c d = refl
+      go false false true d = refl
+      go false false false true = refl
+      go false false false false = refl

@@ -1,6 +1,6 @@
 -- What a sheet that passed 3 is known to be.
 --     passed, sized    its sizes are within their limits, and its length is the one called for
---     groups-fit, range-fits, lists-fit    its arrays stand in it
+--     groups-fit, range-fits, lists-fit    its arrays stand in it; area-ends: the text area stands behind them, up to its end
 --     passing          what readers ask of it, for the search
 --     passed-all, read-passed, read-ok     where the code is 0, no check of 3 to 5 failed, and what is read is what is decoded
 -- Assumes nothing.
@@ -13,7 +13,7 @@ use lib.ListN.{length}
 use lib.Dec.{eqb, ltb}
 use borrow.Author.Tests.{ltb-false, eqb-true, not-false}
 use Rattle.numbers.specs.Result.{Result, ok, refused, checked}
-use Rattle.base.specs.Form.{Form, natureAt, byteAt, isRangeNature, groupCount, listCount, categoryCount, entriesAt, lengthCalledFor}
+use Rattle.base.specs.Form.{Form, natureAt, byteAt, isRangeNature, groupCount, listCount, categoryCount, areaAt, areaSize, entriesAt, lengthCalledFor}
 use Rattle.base.specs.Decode.{decode, natureIn}
 use Rattle.base.specs.Checks.{sizesFail, fieldsFail, boundsFail, read}
 use Rattle.base.specs.Code.{codeOf}
@@ -29,9 +29,11 @@ module _ (F : Form) (s : List ℕ) where
       let g = ltb (F .groupLimit) (groupCount F s) in
       let n = ltb (F .listLimit) (listCount F s) in
       let t = ltb (F .categoryLimit) (categoryCount F s) in
+      let x = ltb (F .textLimit) (areaSize F s) in
       let l = eqb (length s) (lengthCalledFor F s) in
-      let d = or-no (short || g || n || t) (not l) e in
-      let c = or-no (short || g || n) t (d .0) in
+      let d = or-no (short || g || n || t || x) (not l) e in
+      let y = or-no (short || g || n || t) x (d .0) in
+      let c = or-no (short || g || n) t (y .0) in
       let b = or-no (short || g) n (c .0) in
       let a = or-no short g (b .0) in
       record {
@@ -41,6 +43,7 @@ module _ (F : Form) (s : List ℕ) where
         groupsWithin = ltb-false (F .groupLimit) (groupCount F s) (a .1);
         listsWithin = ltb-false (F .listLimit) (listCount F s) (b .1);
         categoriesWithin = ltb-false (F .categoryLimit) (categoryCount F s) (c .1);
+        textWithin = ltb-false (F .textLimit) (areaSize F s) (y .1);
         exact = eqb-true (length s) (lengthCalledFor F s) (not-false l (d .1));
       }
 
@@ -55,6 +58,7 @@ module _ (F : Form) (s : List ℕ) where
         groupsWithin = omega arith;
         listsWithin = omega arith;
         categoriesWithin = omega arith;
+        textWithin = z .textWithin;
         exact = z .exact;
       }
 
@@ -66,7 +70,7 @@ module _ {F : Form} {s : List ℕ} {g n t : ℕ} (z : Sized F s g n t) where
   groups-fit = let e = z .exact in record { groups = z .groups; groupsWithin = z .groupsWithin; room = omega arith }
 
   -- the length called for, by whether the nature is a range
-  called : (b : Bool) → isRangeNature (byteAt F natureAt s) ≡ b → length s ≡ entriesAt F g + cond b (18 * n) ((F .numberWidth + 8) * t)
+  called : (b : Bool) → isRangeNature (byteAt F natureAt s) ≡ b → length s ≡ entriesAt F g + cond b (18 * n) ((F .numberWidth + 8) * t) + areaSize F s
   called b e = rw (z .groups, z .lists, z .categories, ← e) (z .exact)
 
   pub range-fits : isRangeNature (byteAt F natureAt s) ≡ true → RangeFits F s g n
@@ -86,6 +90,9 @@ module _ {F : Form} {s : List ℕ} {g n t : ℕ} (z : Sized F s g n t) where
         categoriesWithin = z .categoriesWithin;
         room = omega arith;
       }
+
+  pub area-ends : isRangeNature (byteAt F natureAt s) ≡ false → length s ≡ areaAt F g t + areaSize F s
+  area-ends r = called false r
 
 module _ (F : Form) (s : List ℕ) (e : sizesFail F s ≡ false) where
   pub passed-long : F .arraysAt ≤ length s

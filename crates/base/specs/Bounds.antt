@@ -6,7 +6,7 @@ use lib.IntN.{ℤ}
 use lib.Ieee.{Float}
 use Rattle.numbers.specs.Kind.{Kind, Span, whole, float}
 use Rattle.utilities.specs.Lists.{every}
-use Rattle.base.specs.Sheet.{Nature, absent, wholeRange, floatRange, wholeLists, boolLists, floatLists, isWholeRange}
+use Rattle.base.specs.Sheet.{Nature, absent, wholeRange, floatRange, wholeLists, boolLists, floatLists, textLists, isWholeRange}
 
 abbrev pub isPresent : {E : Type 0} → Option E → Bool
 isPresent none = false
@@ -42,6 +42,7 @@ everyEntry p q (floatRange rs) = every q rs
 everyEntry p q (wholeLists ls) = false
 everyEntry p q (boolLists ls) = false
 everyEntry p q (floatLists ls) = false
+everyEntry p q (textLists ls) = false
 
 -- `lower_float` gives its list: a range without an absent lower
 unfoldable pub lowersPresent : Nature → Bool

@@ -12,9 +12,9 @@ use Rattle.bytes.specs.Le.{leAt}
 use Rattle.numbers.specs.Result.{Result, ok, Check, check, checked}
 use Rattle.numbers.specs.Kind.{Kind, Span, whole, float}
 use Rattle.utilities.specs.Lists.{every}
-use Rattle.base.specs.Form.{Form, groupCount, listCount, categoryCount, place, byteAt, natureAt, typeAt, nullityAt, releasableAt, notEmptyAt, orderedAt, rowsMarkAt, columnsMarkAt, datasetMarkAt, dimensionalityMarkAt, sampleMarkAt, reservedAt, reservedCount, fieldsEnd, rowsAt, columnsAt, datasetAt, dimensionalityAt, sampleAt, absentNature, boolListsNature, lastNature, isRangeNature, lastType, boolKey, lastKey, keyAt, lowerAt, upperAt, lengthCalledFor}
-use Rattle.base.specs.Sheet.{Nature, absent, wholeRange, floatRange, wholeLists, boolLists, floatLists, Sheet}
-use Rattle.base.specs.Decode.{listNumber, categoryAt, decode, natureIn}
+use Rattle.base.specs.Form.{Form, groupCount, listCount, categoryCount, place, byteAt, natureAt, typeAt, nullityAt, releasableAt, notEmptyAt, orderedAt, rowsMarkAt, columnsMarkAt, datasetMarkAt, dimensionalityMarkAt, sampleMarkAt, reservedAt, laterAt, laterCount, fieldsEnd, rowsAt, columnsAt, datasetAt, dimensionalityAt, sampleAt, absentNature, boolListsNature, textListsNature, lastNature, isRangeNature, lastType, boolKey, lastKey, keyAt, lowerAt, upperAt, areaSize, lengthCalledFor}
+use Rattle.base.specs.Sheet.{Nature, absent, wholeRange, floatRange, wholeLists, boolLists, floatLists, textLists, Sheet}
+use Rattle.base.specs.Decode.{listNumber, categoryAt, startIn, lengthIn, decode, natureIn}
 
 -- a test at the n numbers from i on
 unfoldable pub holdsFrom : ℕ → ℕ → (ℕ → Bool) → Bool
@@ -26,13 +26,14 @@ abbrev pub markPermitted : ℕ → ℕ → List ℕ → Bool
 markPermitted mark at s = eqb (getD s mark 0) 1 || (eqb (getD s mark 0) 0 && eqb (leAt 8 at s) 0)
 
 module _ (F : Form) (s : List ℕ) where
-  -- 3: "A sheet's size exceeds its limit, or its length isn't what its sizes call for"; "under 80 bytes is 3"
+  -- 3: "A sheet's size exceeds its limit, or its length isn't what its sizes call for"; "under 80 bytes is 3". 02, S-2: the area's size "over 1,024 is code 3"
   unfoldable pub sizesFail : Bool
   sizesFail =
       ltb (length s) (F .arraysAt)
       || ltb (F .groupLimit) (groupCount F s)
       || ltb (F .listLimit) (listCount F s)
       || ltb (F .categoryLimit) (categoryCount F s)
+      || ltb (F .textLimit) (areaSize F s)
       || not (eqb (length s) (lengthCalledFor F s))
 
   -- 4: the one-byte fields
@@ -42,6 +43,7 @@ module _ (F : Form) (s : List ℕ) where
   abbrev pub gapPermitted : Bool
   gapPermitted = holdsFrom (F .arraysAt - place F fieldsEnd) (place F fieldsEnd) (λ k. eqb (getD s k 0) 0)
 
+  -- 01: "25 to 31 zero"; 02, S-2: of these 25 and 28 to 31
   unfoldable pub bytesPermitted : Bool
   bytesPermitted =
       leb (byteAt F natureAt s) lastNature
@@ -50,7 +52,8 @@ module _ (F : Form) (s : List ℕ) where
       && flagPermitted releasableAt
       && flagPermitted notEmptyAt
       && flagPermitted orderedAt
-      && holdsFrom reservedCount reservedAt (λ k. eqb (byteAt F k s) 0)
+      && eqb (byteAt F reservedAt s) 0
+      && holdsFrom laterCount laterAt (λ k. eqb (byteAt F k s) 0)
       && gapPermitted
 
   -- 4: rows, columns, dataset id, dimensionality and sample proportion
@@ -107,6 +110,17 @@ module _ (F : Form) (s : List ℕ) where
   unfoldable pub listsPermitted : Bool
   listsPermitted = holdsFrom (categoryCount F s) 0 (λ i. numberPermitted i && valuePermitted i)
 
+  -- 4, 02, S-2: "Texts lie end to end in value order from 0 to the area's end": the k values from number i on, of which the first starts at `at`
+  unfoldable pub endToEnd : ℕ → ℕ → ℕ → Bool
+  endToEnd zero i at = eqb at (areaSize F s)
+  endToEnd (suc k) i at =
+      let v = categoryAt F s (groupCount F s) (categoryCount F s) i in
+      eqb (startIn v) at && endToEnd k (i + 1) (at + lengthIn v)
+
+  -- 4, 02, S-2: the area's size "nonzero for another nature is code 4"
+  unfoldable pub areaPermitted : Bool
+  areaPermitted = cond (eqb (byteAt F natureAt s) textListsNature) (endToEnd (categoryCount F s) 0 0) (eqb (areaSize F s) 0)
+
   -- 4: "absent nature has n = t = 0"
   abbrev pub countsPermitted : Bool
   countsPermitted = eqb (listCount F s) 0 && eqb (categoryCount F s) 0
@@ -118,7 +132,7 @@ module _ (F : Form) (s : List ℕ) where
 
   -- 4: "A field has none of its permitted values"; "Breaking these is 4"
   unfoldable pub fieldsFail : Bool
-  fieldsFail = not (bytesPermitted && valuesPermitted && groupsPermitted && naturePermitted)
+  fieldsFail = not (bytesPermitted && valuesPermitted && groupsPermitted && areaPermitted && naturePermitted)
 
 -- 5: "a lower bound exceeds its upper"
 unfoldable pub crossed : {E : Type 0} → Kind E → Option E → Option E → Bool
@@ -145,6 +159,7 @@ boundsFail (floatRange rs) = not (every floatHolds rs)
 boundsFail (wholeLists ls) = false
 boundsFail (boolLists ls) = false
 boundsFail (floatLists ls) = false
+boundsFail (textLists ls) = false
 
 module _ (F : Form) (s : List ℕ) where
   abbrev pub sheetChecks : List Check

@@ -2,9 +2,9 @@
 use mathlib.Core.Bool.{Bool, true, false, cond, not}
 use mathlib.Core.List.{List, [], _∷_}
 use mathlib.Core.Option.{Option, none, some}
-use Prim.Native.Nat.{ℕ, zero, suc, _+_}
+use Prim.Native.Nat.{ℕ, zero, suc, _+_, _*_, _^_, _/_, _%_}
 use lib.IntN.{ℤ}
-use lib.ListN.{getD}
+use lib.ListN.{getD, take, drop}
 use lib.Dec.{eqb}
 use lib.Ieee.{Float, binary64, ofBits}
 use mir.Syntax.{w64}
@@ -12,8 +12,8 @@ use mir.Val.{toZ}
 use Rattle.bytes.specs.Le.{leAt}
 use Rattle.numbers.specs.Kind.{Span}
 use Rattle.utilities.specs.Lists.{listFrom}
-use Rattle.base.specs.Form.{Form, groupCount, listCount, categoryCount, place, byteAt, natureAt, typeAt, nullityAt, releasableAt, notEmptyAt, orderedAt, cStabilityAt, aggregatorAt, rowsMarkAt, columnsMarkAt, datasetMarkAt, dimensionalityMarkAt, sampleMarkAt, rowsAt, columnsAt, datasetAt, dimensionalityAt, sampleAt, nodeAt, wholeRangeNature, floatRangeNature, wholeListsNature, boolListsNature, floatListsNature, partitionAt, keyAt, lowerAt, upperAt, numberAt, valueAt}
-use Rattle.base.specs.Sheet.{Group, Nature, absent, wholeRange, floatRange, wholeLists, boolLists, floatLists, Fields, Sheet}
+use Rattle.base.specs.Form.{Form, groupCount, listCount, categoryCount, place, byteAt, natureAt, typeAt, nullityAt, releasableAt, notEmptyAt, orderedAt, cStabilityAt, aggregatorAt, rowsMarkAt, columnsMarkAt, datasetMarkAt, dimensionalityMarkAt, sampleMarkAt, rowsAt, columnsAt, datasetAt, dimensionalityAt, sampleAt, nodeAt, wholeRangeNature, floatRangeNature, wholeListsNature, boolListsNature, floatListsNature, textListsNature, partitionAt, keyAt, lowerAt, upperAt, numberAt, valueAt, areaAt}
+use Rattle.base.specs.Sheet.{Group, Nature, absent, wholeRange, floatRange, wholeLists, boolLists, floatLists, textLists, Fields, Sheet}
 
 -- 64 bits as a signed number (two's complement), as a float, and as they are
 abbrev pub asWhole : ℕ → ℤ
@@ -32,6 +32,13 @@ optionAt read mark at s = cond (eqb (getD s mark 0) 0) none (some (read (leAt 8 
 -- 01: "each a mark and 64 bits"
 abbrev pub endAt : {X : Type 0} → (ℕ → X) → ℕ → List ℕ → Option X
 endAt read at s = optionAt read at (at + 1) s
+
+-- 02, S-2: "each 64-bit value is a start and a length, 32 bits each"
+abbrev pub startIn : ℕ → ℕ
+startIn v = v % 2 ^ 32
+
+abbrev pub lengthIn : ℕ → ℕ
+lengthIn v = v / 2 ^ 32
 
 abbrev pub prepended {ℓ} : {X : Type ℓ} → Bool → X → List X → List X
 prepended true x xs = x ∷ xs
@@ -74,6 +81,10 @@ module _ (F : Form) (s : List ℕ) where
   unfoldable pub lists : {X : Type 0} → (ℕ → X) → List (List X)
   lists read = listFrom (listCount F s) 0 (λ j. listAt read (groupCount F s) (categoryCount F s) j (categoryCount F s) 0)
 
+  -- 02, S-2: "into a text area after the arrays"
+  unfoldable pub textIn : ℕ → List ℕ
+  textIn v = take (lengthIn v) (drop (areaAt F (groupCount F s) (categoryCount F s) + startIn v) s)
+
   unfoldable pub natureIn : Nature
   natureIn =
       let k = byteAt F natureAt s in
@@ -82,7 +93,8 @@ module _ (F : Form) (s : List ℕ) where
       (cond (eqb k wholeListsNature) (wholeLists (lists asWhole))
       (cond (eqb k boolListsNature) (boolLists (lists asBits))
       (cond (eqb k floatListsNature) (floatLists (lists asBits))
-      absent))))
+      (cond (eqb k textListsNature) (textLists (lists textIn))
+      absent)))))
 
   unfoldable pub fieldsIn : Fields
   fieldsIn = record {

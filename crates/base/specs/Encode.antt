@@ -2,7 +2,7 @@
 use mathlib.Core.Bool.{Bool, true, false}
 use mathlib.Core.List.{List, [], _∷_, _++_}
 use mathlib.Core.Option.{Option, none, some}
-use Prim.Native.Nat.{ℕ, _+_, _-_}
+use Prim.Native.Nat.{ℕ, _+_, _-_, _*_, _^_}
 use lib.IntN.{ℤ}
 use lib.ListN.{length, replicate}
 use lib.Ieee.{Float, binary64, toBits}
@@ -10,8 +10,8 @@ use mir.Syntax.{w64}
 use mir.Val.{ofZ}
 use Rattle.bytes.specs.Le.{leBytes}
 use Rattle.numbers.specs.Kind.{Span}
-use Rattle.base.specs.Form.{Form, place, reservedCount, fieldsEnd, absentNature, wholeRangeNature, floatRangeNature, wholeListsNature, boolListsNature, floatListsNature}
-use Rattle.base.specs.Sheet.{Group, Nature, absent, wholeRange, floatRange, wholeLists, boolLists, floatLists, Fields, Sheet}
+use Rattle.base.specs.Form.{Form, place, laterCount, fieldsEnd, absentNature, wholeRangeNature, floatRangeNature, wholeListsNature, boolListsNature, floatListsNature, textListsNature}
+use Rattle.base.specs.Sheet.{Group, Nature, absent, wholeRange, floatRange, wholeLists, boolLists, floatLists, textLists, Fields, Sheet}
 use Rattle.base.specs.Decode.{asBits}
 
 -- the 64 bits of a signed number, and of a float
@@ -56,6 +56,7 @@ natureNumber (floatRange rs) = floatRangeNature
 natureNumber (wholeLists ls) = wholeListsNature
 natureNumber (boolLists ls) = boolListsNature
 natureNumber (floatLists ls) = floatListsNature
+natureNumber (textLists ls) = textListsNature
 
 -- the list count n
 abbrev pub entryCount : Nature → ℕ
@@ -65,6 +66,7 @@ entryCount (floatRange rs) = length rs
 entryCount (wholeLists ls) = length ls
 entryCount (boolLists ls) = length ls
 entryCount (floatLists ls) = length ls
+entryCount (textLists ls) = length ls
 
 -- the category count t; "t is 0 for ranges; absent nature has n = t = 0"
 abbrev pub valueCount : Nature → ℕ
@@ -74,6 +76,37 @@ valueCount (floatRange rs) = 0
 valueCount (wholeLists ls) = total ls
 valueCount (boolLists ls) = total ls
 valueCount (floatLists ls) = total ls
+valueCount (textLists ls) = total ls
+
+-- 02, S-2: "Texts lie end to end in value order": those of a list, and of all lists
+unfoldable pub textOf : List (List ℕ) → List ℕ
+textOf l = joined (λ x. x) l
+
+unfoldable pub areaOf : List (List (List ℕ)) → List ℕ
+areaOf ls = joined textOf ls
+
+-- .. "from 0": the value of a text is where it starts, and its length
+abbrev pub spot : ℕ → ℕ → ℕ
+spot start length = start + 2 ^ 32 * length
+
+-- the values of a list whose first text starts at `at`, and with those of the lists behind it
+unfoldable pub spotsOf : ℕ → List (List ℕ) → List ℕ
+spotsOf at [] = []
+spotsOf at (x ∷ xs) = spot at (length x) ∷ spotsOf (at + length x) xs
+
+unfoldable pub spotsFrom : ℕ → List (List (List ℕ)) → List (List ℕ)
+spotsFrom at [] = []
+spotsFrom at (l ∷ ls) = spotsOf at l ∷ spotsFrom (at + length (textOf l)) ls
+
+-- the area's size; 02, S-2: "nonzero for another nature is code 4"
+abbrev pub textSize : Nature → ℕ
+textSize absent = 0
+textSize (wholeRange rs) = 0
+textSize (floatRange rs) = 0
+textSize (wholeLists ls) = 0
+textSize (boolLists ls) = 0
+textSize (floatLists ls) = 0
+textSize (textLists ls) = length (areaOf ls)
 
 -- 01: "n lowers and n uppers"
 module _ {X : Type 0} (bits : X → ℕ) where
@@ -113,6 +146,7 @@ module _ (F : Form) where
   natureBytes (wholeLists ls) = listsBytes wholeBits ls
   natureBytes (boolLists ls) = listsBytes asBits ls
   natureBytes (floatLists ls) = listsBytes asBits ls
+  natureBytes (textLists ls) = listsBytes asBits (spotsFrom 0 ls) ++ areaOf ls
 
   -- 01: "Sizes first": groups g, list count n, category count t
   abbrev pub sizeBytes : ℕ → ℕ → ℕ → List ℕ
@@ -129,14 +163,15 @@ flagBytes nature s = nature ∷ s .dataType ∷ flag (s .nullity) ∷ flag (s .r
 abbrev pub presenceBytes : Fields → List ℕ
 presenceBytes s = mark (s .rows) ∷ mark (s .columns) ∷ mark (s .dataset) ∷ mark (s .dimensionality) ∷ mark (s .sample) ∷ []
 
--- 01: bytes 6 to 31
-unfoldable pub markBytes : ℕ → Fields → List ℕ
-markBytes nature s =
+-- 01: bytes 6 to 31; 02, S-2: the area's size in 26 and 27
+unfoldable pub markBytes : ℕ → ℕ → Fields → List ℕ
+markBytes nature area s =
     flagBytes nature s
     ++ leBytes 4 (s .cStability)
     ++ leBytes 4 (s .aggregator)
     ++ presenceBytes s
-    ++ replicate reservedCount 0
+    ++ (0 ∷ leBytes 2 area)
+    ++ replicate laterCount 0
 
 -- 01: "Then 64 bits each: those five from 32, node at 72"
 unfoldable pub valueBytes : Fields → List ℕ
@@ -152,14 +187,14 @@ unfoldable pub groupBytes : List Group → List ℕ
 groupBytes gs = joined (λ g. leBytes 4 (g .partition)) gs ++ joined (λ g. g .kind ∷ leBytes 8 (wholeBits (g .index))) gs
 
 module _ (F : Form) where
-  -- all that stands before the arrays: of g groups, and of a nature by its number and its sizes n and t
-  abbrev pub frontBytes : ℕ → ℕ → ℕ → ℕ → Fields → ℤ → List ℕ
-  frontBytes g nature n t fields node =
-      sizeBytes F g n t ++ markBytes nature fields ++ valueBytes fields ++ leBytes 8 (wholeBits node) ++ gapBytes F
+  -- all that stands before the arrays: of g groups, and of a nature by its number, its sizes n and t and its area's size
+  abbrev pub frontBytes : ℕ → ℕ → ℕ → ℕ → ℕ → Fields → ℤ → List ℕ
+  frontBytes g nature n t area fields node =
+      sizeBytes F g n t ++ markBytes nature area fields ++ valueBytes fields ++ leBytes 8 (wholeBits node) ++ gapBytes F
 
   unfoldable pub encode : Sheet → List ℕ
   encode s =
       let k = s .nature in
-      frontBytes (length (s .groups)) (natureNumber k) (entryCount k) (valueCount k) (s .fields) (s .node)
+      frontBytes (length (s .groups)) (natureNumber k) (entryCount k) (valueCount k) (textSize k) (s .fields) (s .node)
       ++ groupBytes (s .groups)
       ++ natureBytes F k

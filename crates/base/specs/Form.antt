@@ -15,6 +15,8 @@ pub record Form : Type 0 where
   pub listLimit : ℕ
   pub categoryLimit : ℕ
   pub columnLimit : ℕ
+  -- how many bytes the text area may have
+  pub textLimit : ℕ
   -- the bytes of each of the three sizes, and of a category's list number
   pub sizeWidth : ℕ
   pub numberWidth : ℕ
@@ -23,13 +25,15 @@ pub record Form : Type 0 where
   -- where the arrays begin
   pub arraysAt : ℕ
 
--- 01: "groups g (to 4)", "list count n (to 16)", "category count t (to 128)", "Columns are 1 to 16", "16 bits each", "list numbers (8 bits)", "From 80"
+-- 01: "groups g (to 4)", "list count n (to 16)", "category count t (to 128)", "Columns are 1 to 16", "16 bits each", "list numbers (8 bits)", "From 80".
+-- 02, S-2: "The area's size .. over 1,024 is code 3"
 abbrev pub narrow : Form
 narrow = record {
   groupLimit = 4;
   listLimit = 16;
   categoryLimit = 128;
   columnLimit = 16;
+  textLimit = 1024;
   sizeWidth = 2;
   numberWidth = 1;
   shift = 0;
@@ -44,6 +48,7 @@ wide = record {
   listLimit = 64;
   categoryLimit = 1024;
   columnLimit = 64;
+  textLimit = 1024;
   sizeWidth = 4;
   numberWidth = 2;
   shift = 6;
@@ -99,7 +104,8 @@ cStabilityAt = 12
 abbrev pub aggregatorAt : ℕ
 aggregatorAt = 16
 
--- 01: "Marks of presence at 20 to 24 for rows, columns, dataset id, dimensionality, sample proportion; 25 to 31 zero"
+-- 01: "Marks of presence at 20 to 24 for rows, columns, dataset id, dimensionality, sample proportion; 25 to 31 zero". 02, S-2: "The area's size stands in bytes
+-- 26 and 27"; 25 and 28 to 31 stay zero
 abbrev pub rowsMarkAt : ℕ
 rowsMarkAt = 20
 
@@ -118,8 +124,14 @@ sampleMarkAt = 24
 abbrev pub reservedAt : ℕ
 reservedAt = 25
 
-abbrev pub reservedCount : ℕ
-reservedCount = 7
+abbrev pub areaSizeAt : ℕ
+areaSizeAt = 26
+
+abbrev pub laterAt : ℕ
+laterAt = 28
+
+abbrev pub laterCount : ℕ
+laterCount = 4
 
 -- 01: "Then 64 bits each: those five from 32, node at 72"
 abbrev pub rowsAt : ℕ
@@ -144,7 +156,7 @@ nodeAt = 72
 abbrev pub fieldsEnd : ℕ
 fieldsEnd = 80
 
--- 01: "nature (0 absent, 1 whole range, 2 float range, 3 whole, 4 bool, 5 float categories)"
+-- 01: "nature (0 absent, 1 whole range, 2 float range, 3 whole, 4 bool, 5 float categories)"; 02, S-2: "Nature 6 holds text categories"
 abbrev pub absentNature : ℕ
 absentNature = 0
 
@@ -163,8 +175,11 @@ boolListsNature = 4
 abbrev pub floatListsNature : ℕ
 floatListsNature = 5
 
+abbrev pub textListsNature : ℕ
+textListsNature = 6
+
 abbrev pub lastNature : ℕ
-lastNature = 5
+lastNature = 6
 
 -- 01: "for natures 1 and 2"
 abbrev pub isRangeNature : ℕ → Bool
@@ -213,16 +228,25 @@ module _ (F : Form) where
   abbrev pub valueAt : ℕ → ℕ → ℕ → ℕ
   valueAt g t i = entriesAt g + F .numberWidth * t + 8 * i
 
-  -- 01: "The length called for is 80 + 13g, plus 18n for natures 1 and 2, else plus 9t"
-  abbrev pub calledFor : ℕ → ℕ → ℕ → ℕ → ℕ
-  calledFor nature g n t = F .arraysAt + 13 * g + cond (isRangeNature nature) (18 * n) ((F .numberWidth + 8) * t)
+  -- 02, S-2: "a text area after the arrays", which are those of categories
+  abbrev pub areaAt : ℕ → ℕ → ℕ
+  areaAt g t = entriesAt g + (F .numberWidth + 8) * t
+
+  -- 02, S-2: "The area's size stands in bytes 26 and 27"
+  abbrev pub areaSize : List ℕ → ℕ
+  areaSize s = leAt 2 (place F areaSizeAt) s
+
+  -- 01: "The length called for is 80 + 13g, plus 18n for natures 1 and 2, else plus 9t". 02, S-2: the area's size "is added to the length called for under
+  -- any nature"
+  abbrev pub calledFor : ℕ → ℕ → ℕ → ℕ → ℕ → ℕ
+  calledFor nature g n t a = F .arraysAt + 13 * g + cond (isRangeNature nature) (18 * n) ((F .numberWidth + 8) * t) + a
 
   abbrev pub lengthCalledFor : List ℕ → ℕ
-  lengthCalledFor s = calledFor (byteAt F natureAt s) (groupCount F s) (listCount F s) (categoryCount F s)
+  lengthCalledFor s = calledFor (byteAt F natureAt s) (groupCount F s) (listCount F s) (categoryCount F s) (areaSize s)
 
-  -- 01: "The longest sheet is 1,284 bytes", and so is a plan's slot
+  -- 02, S-2: "Slots and the longest sheet become 2,308 bytes"
   abbrev pub longest : ℕ
-  longest = calledFor wholeListsNature (F .groupLimit) (F .listLimit) (F .categoryLimit)
+  longest = calledFor textListsNature (F .groupLimit) (F .listLimit) (F .categoryLimit) (F .textLimit)
 
 -- a form whose places do not overlap, whose limits fit their widths, and whose derived natures keep to the limits
 pub record Laid (F : Form) : Type 0 where
@@ -237,6 +261,8 @@ pub record Laid (F : Form) : Type 0 where
   pub groupsCounted : F .groupLimit < 256 ^ F .sizeWidth
   pub listsCounted : F .listLimit < 256 ^ F .sizeWidth
   pub categoriesCounted : F .categoryLimit < 256 ^ F .sizeWidth
+  -- the area's size has 16 bits
+  pub areaCounted : F .textLimit < 256 ^ 2
   pub listsNumbered : F .listLimit ≤ 256 ^ F .numberWidth
   -- a derived range has one entry per column
   pub columnsListed : F .columnLimit ≤ F .listLimit
@@ -248,6 +274,7 @@ pub record Small (F : Form) : Type 0 where
   pub groups : F .groupLimit ≤ 4
   pub lists : F .listLimit ≤ 64
   pub categories : F .categoryLimit ≤ 1024
+  pub text : F .textLimit ≤ 1024
   pub sizes : F .sizeWidth ≤ 4
   pub sizesRead : 256 ^ F .sizeWidth ≤ 2 ^ 32
   pub numbers : F .numberWidth ≤ 2

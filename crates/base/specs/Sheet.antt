@@ -13,7 +13,8 @@ pub record Group : Type 0 where
   pub kind : ℕ
   pub index : ℤ
 
--- 01: "nature (0 absent, 1 whole range, 2 float range, 3 whole, 4 bool, 5 float categories)". Bool and float categories travel as 64 bits
+-- 01: "nature (0 absent, 1 whole range, 2 float range, 3 whole, 4 bool, 5 float categories)". Bool and float categories travel as 64 bits.
+-- 02, S-2: "Nature 6 holds text categories": a text is its bytes
 pub data Nature : Type 0 where
   absent : Nature
   wholeRange : List (Span ℤ) → Nature
@@ -21,6 +22,7 @@ pub data Nature : Type 0 where
   wholeLists : List (List ℤ) → Nature
   boolLists : List (List ℕ) → Nature
   floatLists : List (List ℕ) → Nature
+  textLists : List (List (List ℕ)) → Nature
 
 -- the fields of one value
 pub record Fields : Type 0 where
@@ -54,3 +56,4 @@ isWholeRange (floatRange rs) = false
 isWholeRange (wholeLists ls) = false
 isWholeRange (boolLists ls) = false
 isWholeRange (floatLists ls) = false
+isWholeRange (textLists ls) = false

@@ -3,7 +3,7 @@ use mathlib.Core.Path.{_≡_}
 use mathlib.Core.List.{List}
 use Prim.Native.Nat.{ℕ, _+_, _*_, _≤_}
 use lib.ListN.{length}
-use Rattle.base.specs.Form.{Form, groupCount, listCount, categoryCount, entriesAt, lengthCalledFor}
+use Rattle.base.specs.Form.{Form, groupCount, listCount, categoryCount, areaSize, entriesAt, lengthCalledFor}
 use Rattle.base.specs.declared.Sizes.{Sizes}
 
 -- r has the sizes of s
@@ -20,6 +20,7 @@ pub record Sized (F : Form) (s : List ℕ) (g n t : ℕ) : Type 0 where
   pub groupsWithin : g ≤ F .groupLimit
   pub listsWithin : n ≤ F .listLimit
   pub categoriesWithin : t ≤ F .categoryLimit
+  pub textWithin : areaSize F s ≤ F .textLimit
   pub exact : length s ≡ lengthCalledFor F s
 
 -- the arrays of g groups stand in s

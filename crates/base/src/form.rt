@@ -1,7 +1,7 @@
 // The stored form of a sheet: limits, places and numbers, as specs/Form.antt has them. The code has them from here alone.
 ghost use mathlib.Core.Path.{_≡_};
 ghost use Prim.Native.Nat.{_+_, _*_, _^_, _≤_, _<_};
-ghost use Rattle.base.specs.Form.{formOf, place, fieldsEnd, isRangeNature, entriesAt, partitionAt, keyAt, lowerAt, upperAt, numberAt, valueAt, calledFor};
+ghost use Rattle.base.specs.Form.{formOf, place, fieldsEnd, isRangeNature, entriesAt, partitionAt, keyAt, lowerAt, upperAt, numberAt, valueAt, areaAt, calledFor};
 
 // ---- what every form has: places as 01 has them, which a form may shift, and widths
 
@@ -23,7 +23,7 @@ pub const C_STABILITY_AT: usize = 12;
 
 pub const AGGREGATOR_AT: usize = 16;
 
-// Marks of presence, and the bytes behind them that are zero.
+// Marks of presence, and a byte behind them that is zero.
 pub const ROWS_MARK_AT: usize = 20;
 
 pub const COLUMNS_MARK_AT: usize = 21;
@@ -36,9 +36,10 @@ pub const SAMPLE_MARK_AT: usize = 24;
 
 pub const RESERVED_AT: usize = 25;
 
-pub const RESERVED_COUNT: usize = 7;
+// The size of the text area, of 16 bits, and four bytes more that are zero.
+pub const AREA_SIZE_AT: usize = 26;
 
-pub const RESERVED_END: usize = RESERVED_AT + RESERVED_COUNT;
+pub const LATER_AT: usize = 28;
 
 // 64 bits each.
 pub const ROWS_AT: usize = 32;
@@ -82,7 +83,9 @@ pub const BOOL_LISTS: u8 = 4;
 
 pub const FLOAT_LISTS: u8 = 5;
 
-pub const LAST_NATURE: u8 = FLOAT_LISTS;
+pub const TEXT_LISTS: u8 = 6;
+
+pub const LAST_NATURE: u8 = TEXT_LISTS;
 
 // Data types that rules look at.
 pub const FLOAT_TYPE: u8 = 3;
@@ -120,6 +123,8 @@ pub const NARROW_CATEGORY_LIMIT: usize = 128;
 
 pub const NARROW_COLUMN_LIMIT: u64 = 16;
 
+pub const NARROW_TEXT_LIMIT: usize = 1024;
+
 pub const NARROW_SIZE_WIDTH: usize = 2;
 
 pub const NARROW_NUMBER_WIDTH: usize = 1;
@@ -128,10 +133,13 @@ pub const NARROW_SHIFT: usize = 0;
 
 pub const NARROW_ARRAYS_AT: usize = 80;
 
-// The longest sheet, and a plan's slot.
-pub const NARROW_LONGEST: usize = NARROW_ARRAYS_AT
+// The longest sheet of categories that are no texts.
+pub const NARROW_LISTS_LONGEST: usize = NARROW_ARRAYS_AT
     + GROUP_WIDTH * NARROW_GROUP_LIMIT
     + (NARROW_NUMBER_WIDTH + VALUE_WIDTH) * NARROW_CATEGORY_LIMIT;
+
+// The longest sheet, and a plan's slot.
+pub const NARROW_LONGEST: usize = NARROW_LISTS_LONGEST + NARROW_TEXT_LIMIT;
 
 // The longest sheet of a range.
 pub const NARROW_RANGE_LONGEST: usize = NARROW_ARRAYS_AT
@@ -143,6 +151,9 @@ pub const NARROW_ENDS_ROOM: usize = END_WIDTH * NARROW_LIST_LIMIT;
 
 pub const NARROW_VALUES_ROOM: usize = VALUE_WIDTH * NARROW_CATEGORY_LIMIT;
 
+// Values of texts, with the area behind them.
+pub const NARROW_TEXTS_ROOM: usize = NARROW_VALUES_ROOM + NARROW_TEXT_LIMIT;
+
 // 02's wider form.
 const WIDE_GROUP_LIMIT: usize = 4;
 
@@ -151,6 +162,8 @@ const WIDE_LIST_LIMIT: usize = 64;
 const WIDE_CATEGORY_LIMIT: usize = 1024;
 
 const WIDE_COLUMN_LIMIT: u64 = 64;
+
+const WIDE_TEXT_LIMIT: usize = 1024;
 
 const WIDE_SIZE_WIDTH: usize = 4;
 
@@ -198,6 +211,15 @@ impl Form {
         match self {
             Form::Narrow => NARROW_COLUMN_LIMIT,
             Form::Wide => WIDE_COLUMN_LIMIT,
+        }
+    }
+
+    pub fn text_limit(self) -> usize
+        ensures { λ r. ⌜ (r ≡ formOf self .textLimit) × (r ≤ 1024) ⌝ }
+    {
+        match self {
+            Form::Narrow => NARROW_TEXT_LIMIT,
+            Form::Wide => WIDE_TEXT_LIMIT,
         }
     }
 
@@ -299,15 +321,22 @@ impl Form {
         self.entries_at(g) + self.numbers_length(t) + VALUE_WIDTH * i
     }
 
-    // The length that a nature and sizes of 32 bits call for.
-    pub fn called_for(self, nature: u8, g: usize, n: usize, t: usize) -> usize
-        requires { ⌜ (g < 2 ^ 32) × (n < 2 ^ 32) × (t < 2 ^ 32) ⌝ }
-        ensures { λ r. ⌜ r ≡ calledFor (formOf self) nature g n t ⌝ }
+    // Where the text area begins.
+    pub fn area_at(self, g: usize, t: usize) -> usize
+        requires { ⌜ (g < 2 ^ 32) × (t < 2 ^ 32) ⌝ }
+        ensures { λ r. ⌜ (r ≡ areaAt (formOf self) g t) × (r ≤ 88 + 13 * g + 10 * t) ⌝ }
     {
-        let start = self.entries_at(g);
+        self.entries_at(g) + self.numbers_length(t) + VALUE_WIDTH * t
+    }
+
+    // The length that a nature and sizes of 32 bits call for.
+    pub fn called_for(self, nature: u8, g: usize, n: usize, t: usize, a: usize) -> usize
+        requires { ⌜ (g < 2 ^ 32) × (n < 2 ^ 32) × (t < 2 ^ 32) × (a < 2 ^ 32) ⌝ }
+        ensures { λ r. ⌜ r ≡ calledFor (formOf self) nature g n t a ⌝ }
+    {
         if is_range(nature) {
-            return start + ENTRY_WIDTH * n;
+            return self.entries_at(g) + ENTRY_WIDTH * n + a;
         }
-        start + self.numbers_length(t) + VALUE_WIDTH * t
+        self.area_at(g, t) + a
     }
 }

@@ -4,7 +4,7 @@ ghost use Prim.Native.Nat.{_+_, _≤_, _<_};
 ghost use lib.ListN.{length, getD};
 ghost use Rattle.bytes.specs.Le.{leAt};
 ghost use Rattle.bytes.specs.Wrote.{Wrote};
-ghost use Rattle.base.specs.Form.{formOf, place, byteAt, natureAt, nodeAt, fieldsEnd, lengthCalledFor};
+ghost use Rattle.base.specs.Form.{formOf, place, byteAt, natureAt, nodeAt, fieldsEnd, areaSize, lengthCalledFor};
 ghost use Rattle.base.specs.Decode.{asWhole, asFloat, asBits, flagAt, fieldAt, listNumber, fieldsIn};
 ghost use Rattle.base.specs.Components.{numberOf, componentOf, familyOf, isUnary};
 ghost use Rattle.base.specs.Code.{boundAt, boundBytes, signedOf, bitsIn, headFields};
@@ -276,6 +276,14 @@ pub fn sizes_at(f: Form, s: &[u8]) -> Sizes
     }
 }
 
+// The size of the text area.
+pub fn area_size(f: Form, s: &[u8]) -> usize
+    requires { ⌜ formOf f .arraysAt ≤ length (now s) ⌝ }
+    ensures { λ r. ⌜ r ≡ areaSize (formOf f) (now (s .entry)) ⌝ }
+{
+    u16_at(s, f.place(form::AREA_SIZE_AT))
+}
+
 // The length that the sizes call for, whether or not they keep to their limits.
 pub fn length_called_for(f: Form, s: &[u8]) -> usize
     requires { ⌜ formOf f .arraysAt ≤ length (now s) ⌝ }
@@ -285,7 +293,7 @@ pub fn length_called_for(f: Form, s: &[u8]) -> usize
     let g = sizes.groups;
     let n = sizes.lists;
     let t = sizes.categories;
-    f.called_for(nature_of(f, s), g, n, t)
+    f.called_for(nature_of(f, s), g, n, t, area_size(f, s))
 }
 
 // ---- a field, by its place in 01
@@ -297,7 +305,7 @@ pub fn byte_in(f: Form, s: &[u8], k: usize) -> u8
     byte_at(s, f.place(k))
 }
 
-fn u32_in(f: Form, s: &[u8], k: usize) -> u32
+pub fn u32_in(f: Form, s: &[u8], k: usize) -> u32
     requires { ⌜ (formOf f .arraysAt ≤ length (now s)) × (k + 4 ≤ fieldsEnd) ⌝ }
     ensures { λ r. ⌜ r ≡ leAt 4 (place (formOf f) k) (now (s .entry)) ⌝ }
 {

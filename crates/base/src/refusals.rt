@@ -1,4 +1,4 @@
-// 01's numbers of the refusals. 25 is missing: no call gives it.
+// 01's and 02's numbers of the refusals. 25 is missing: no call gives it.
 
 // The plan is malformed.
 pub const MALFORMED: u32 = 1;
@@ -77,3 +77,6 @@ pub const OVER_THE_LIMIT: u32 = 26;
 
 // The output or the work buffer is too short.
 pub const NO_ROOM: u32 = 27;
+
+// The result's text exceeds what a sheet holds.
+pub const TOO_MUCH_TEXT: u32 = 28;

@@ -1,4 +1,4 @@
--- `propagate_unary_nature`, `propagate_binary_nature` and Pool's: 17 to 26, and the nature derived.
+-- `propagate_unary_nature`, `propagate_binary_nature` and Pool's: 17 to 26 and 28, and the nature derived.
 use mathlib.Core.Bool.{Bool, not}
 use mathlib.Core.List.{List, [], _∷_, _++_}
 use mathlib.Core.Option.{Option, none}
@@ -8,15 +8,15 @@ use lib.Dec.{eqb}
 use lib.Ieee.{Float}
 use Rattle.numbers.specs.Result.{Result, ok, refused, andThen, Check, check, checked}
 use Rattle.numbers.specs.Kind.{Span, whole, float, eqZ}
-use Rattle.base.specs.Form.{floatListsNature}
-use Rattle.base.specs.Sheet.{Nature, absent, wholeRange, floatRange, wholeLists, boolLists, floatLists}
+use Rattle.base.specs.Form.{Form, floatListsNature}
+use Rattle.base.specs.Sheet.{Nature, absent, wholeRange, floatRange, wholeLists, boolLists, floatLists, textLists}
 use Rattle.base.specs.Encode.{natureNumber, entryCount}
 use Rattle.base.specs.declared.Component.{Component}
 use Rattle.ends.specs.Ends.{endRule}
 use Rattle.ends.specs.Ranges.{wholeRule, rangePair, rangeAlone}
-use Rattle.category_lists.specs.Categories.{categoryRule, ruled, combined, mapped, united, limited}
+use Rattle.category_lists.specs.Categories.{categoryRule, textRule, sameText, ruled, combined, mapped, united, limited, kept}
 
--- 01: "Bool has none anywhere"
+-- the rule of one operand's categories. 01: "Bool has none anywhere". 02, S-2: text has none; Add's rule on two texts is `textRule`
 abbrev pub ruleFor : Component → ℕ → Nature → Option (ℤ → ℤ → Result ℤ)
 ruleFor c type absent = none
 ruleFor c type (wholeRange rs) = none
@@ -24,6 +24,7 @@ ruleFor c type (floatRange rs) = none
 ruleFor c type (wholeLists ls) = categoryRule c type
 ruleFor c type (boolLists ls) = none
 ruleFor c type (floatLists ls) = none
+ruleFor c type (textLists ls) = none
 
 abbrev pub wholeListsOf : Nature → List (List ℤ)
 wholeListsOf absent = []
@@ -32,6 +33,7 @@ wholeListsOf (floatRange rs) = []
 wholeListsOf (wholeLists ls) = ls
 wholeListsOf (boolLists ls) = []
 wholeListsOf (floatLists ls) = []
+wholeListsOf (textLists ls) = []
 
 abbrev pub boolListsOf : Nature → List (List ℕ)
 boolListsOf absent = []
@@ -40,6 +42,16 @@ boolListsOf (floatRange rs) = []
 boolListsOf (wholeLists ls) = []
 boolListsOf (boolLists ls) = ls
 boolListsOf (floatLists ls) = []
+boolListsOf (textLists ls) = []
+
+abbrev pub textListsOf : Nature → List (List (List ℕ))
+textListsOf absent = []
+textListsOf (wholeRange rs) = []
+textListsOf (floatRange rs) = []
+textListsOf (wholeLists ls) = []
+textListsOf (boolLists ls) = []
+textListsOf (floatLists ls) = []
+textListsOf (textLists ls) = ls
 
 -- 19: "Float categories are to be combined or mapped"; 20: "A category operand has no lists"
 abbrev pub isFloatLists : Nature → Bool
@@ -63,17 +75,26 @@ unitedNature columns (floatRange rs) r = ok absent
 unitedNature columns (wholeLists ls) r = andThen (united eqZ columns ls (wholeListsOf r)) (λ ns. ok (wholeLists ns))
 unitedNature columns (boolLists ls) r = andThen (united eqb columns ls (boolListsOf r)) (λ ns. ok (boolLists ns))
 unitedNature columns (floatLists ls) r = ok absent
+unitedNature columns (textLists ls) r = andThen (united sameText columns ls (textListsOf r)) (λ ns. ok (textLists ns))
 
 -- two category operands of Pool: 19 to 21, then left's lists followed by right's
 unfoldable pub listsUnited : ℕ → Nature → Nature → Result Nature
 listsUnited columns l r = checked (bothListChecks l r) (unitedNature columns l r)
 
-module _ (limit : ℕ) (c : Component) (type columns : ℕ) where
+module _ (F : Form) (c : Component) (type columns : ℕ) where
+  -- 22, then the product of two operands' lists, which are of one kind (21); 26, and of texts 28
+  abbrev pub combinedNature : Nature → Nature → Result Nature
+  combinedNature absent r = refused 22
+  combinedNature (wholeRange rs) r = refused 22
+  combinedNature (floatRange rs) r = refused 22
+  combinedNature (wholeLists ls) r = ruled (categoryRule c type) (λ rule. limited (F .categoryLimit) (combined eqZ rule columns ls (wholeListsOf r)))
+  combinedNature (boolLists ls) r = refused 22
+  combinedNature (floatLists ls) r = refused 22
+  combinedNature (textLists ls) r = ruled (textRule c) (λ rule. andThen (combined sameText rule columns ls (textListsOf r)) (λ ns. kept F (textLists ns)))
+
   -- two category operands: 19 to 22, then the product
   unfoldable pub listsPair : Nature → Nature → Result Nature
-  listsPair l r =
-      checked (bothListChecks l r)
-      (ruled (ruleFor c type l) (λ rule. limited limit (combined eqZ rule columns (wholeListsOf l) (wholeListsOf r))))
+  listsPair l r = checked (bothListChecks l r) (combinedNature l r)
 
 -- two natures, of which two categories make what `together` says
 module _ (c : Component) (type columns : ℕ) (together : Nature → Nature → Result Nature) where
@@ -84,6 +105,7 @@ module _ (c : Component) (type columns : ℕ) (together : Nature → Nature → 
   wholeRangeWith xs (wholeLists ms) = ok absent
   wholeRangeWith xs (boolLists ms) = ok absent
   wholeRangeWith xs (floatLists ms) = ok absent
+  wholeRangeWith xs (textLists ms) = ok absent
 
   -- 17: "One range is whole, the other float"
   unfoldable pub floatRangeWith : List (Span Float) → Nature → Result Nature
@@ -93,6 +115,7 @@ module _ (c : Component) (type columns : ℕ) (together : Nature → Nature → 
   floatRangeWith xs (wholeLists ms) = ok absent
   floatRangeWith xs (boolLists ms) = ok absent
   floatRangeWith xs (floatLists ms) = ok absent
+  floatRangeWith xs (textLists ms) = ok absent
 
   unfoldable pub listsWith : Nature → Nature → Result Nature
   listsWith l absent = ok absent
@@ -101,6 +124,7 @@ module _ (c : Component) (type columns : ℕ) (together : Nature → Nature → 
   listsWith l (wholeLists ms) = together l (wholeLists ms)
   listsWith l (boolLists ms) = together l (boolLists ms)
   listsWith l (floatLists ms) = together l (floatLists ms)
+  listsWith l (textLists ms) = together l (textLists ms)
 
   -- 01: "Either nature absent, or range with categories, gives absent"; 02, S-1: "Nature is absent as for the other pairs"
   unfoldable pub twoNatures : Nature → Nature → Result Nature
@@ -110,12 +134,13 @@ module _ (c : Component) (type columns : ℕ) (together : Nature → Nature → 
   twoNatures (wholeLists ls) r = listsWith (wholeLists ls) r
   twoNatures (boolLists ls) r = listsWith (boolLists ls) r
   twoNatures (floatLists ls) r = listsWith (floatLists ls) r
+  twoNatures (textLists ls) r = listsWith (textLists ls) r
 
 -- `propagate_binary_nature`
-abbrev pub binaryNature : ℕ → Component → ℕ → ℕ → Nature → Nature → Result Nature
-binaryNature limit c type columns l r = twoNatures c type columns (listsPair limit c type columns) l r
+abbrev pub binaryNature : Form → Component → ℕ → ℕ → Nature → Nature → Result Nature
+binaryNature F c type columns l r = twoNatures c type columns (listsPair F c type columns) l r
 
--- 17 to 21 of Pool, and the nature that it derives, however many categories it holds: 24 of the rows comes before 26
+-- 17 to 21 of Pool, and the nature that it derives, however many categories and texts it holds: 24 of the rows comes before 26 and 28
 abbrev pub poolNature : Component → ℕ → ℕ → Nature → Nature → Result Nature
 poolNature c type columns l r = twoNatures c type columns (listsUnited columns) l r
 
@@ -134,3 +159,4 @@ module _ (limit : ℕ) (c : Component) (type columns : ℕ) where
   unaryNature (wholeLists ls) = listsAlone (wholeLists ls)
   unaryNature (boolLists ls) = listsAlone (boolLists ls)
   unaryNature (floatLists ls) = listsAlone (floatLists ls)
+  unaryNature (textLists ls) = listsAlone (textLists ls)

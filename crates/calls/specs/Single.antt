@@ -21,7 +21,7 @@ use Rattle.calls.specs.Derive.{derive}
 unfoldable pub stepSheet : Form → Component → List ℕ → List ℕ → Result Sheet
 stepSheet F c left right =
     andThen (read F left)
-    (λ l. cond (isUnary (familyOf c)) (derive (F .categoryLimit) c l l) (andThen (read F right) (λ r. derive (F .categoryLimit) c l r)))
+    (λ l. cond (isUnary (familyOf c)) (derive F c l l) (andThen (read F right) (λ r. derive F c l r)))
 
 -- the bytes that a component derives of its operands' bytes
 unfoldable pub step : Form → Component → ℕ → List ℕ → List ℕ → Result (List ℕ)

@@ -14,7 +14,7 @@ use Rattle.calls.specs.Single.{Outcome, outcome, singleOf}
 use Rattle.plan_form.specs.Form.{nodeCount, leafCount, stepCount, componentNumber, leftOf, rightOf, planFails, noNode}
 
 module _ (F : Form) where
-  -- 01: "A work buffer has slots of 1,284 bytes"
+  -- 01: "A work buffer has slots"; 02, S-2: "Slots and the longest sheet become 2,308 bytes"
   abbrev pub slotAt : ℕ → ℕ
   slotAt k = k * longest F
 
@@ -59,7 +59,7 @@ module _ (F : Form) where
   abbrev pub stepNodes : List ℕ → List ℕ
   stepNodes p = listFrom (stepCount p) (leafCount p) (λ k. k)
 
-  -- 1, then 27 ("the work buffer, below 1,284 bytes a node"), then the leaves, then the steps
+  -- 1, then 27 ("the work buffer" is too short; 02, S-2: "2,308 bytes, which 27 now reads"), then the leaves, then the steps
   unfoldable pub plan : List ℕ → List ℕ → Outcome
   plan p work =
       cond (planFails p) (outcome 1 noNode work)

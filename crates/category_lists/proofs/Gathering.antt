@@ -19,14 +19,12 @@ use lib.Dec.{ltb}
 use borrow.Author.Tests.{ltb-true, ltb-false, lt-ltb, le-ltb}
 use Rattle.bytes.specs.Le.{leBytes}
 use Rattle.numbers.specs.Result.{Result, ok, refused}
-use Rattle.numbers.specs.Kind.{eqZ}
 use Rattle.utilities.specs.Lists.{has, noted}
-use Rattle.utilities.specs.Noted.{Begins, Lacks}
 use Rattle.utilities.proofs.Firsts.{noted-new, noted-keeps}
-use Rattle.utilities.proofs.Begins.{begins-room}
 use Rattle.base.specs.Form.{Form, wholeListsNature}
 use Rattle.base.specs.Encode.{joined, wholeBits, total, numbersFrom, valuesOf, numberBytes, listBytes, valueCount}
 use Rattle.base.specs.Sheet.{Nature, wholeLists}
+use Rattle.base.proofs.Lists.{joined-append}
 use Rattle.writer.specs.Written.{Written, writtenOf, inWriting, derivedIn, listsRoom, Within}
 use Rattle.writer.specs.declared.Derived.{Derived}
 use Rattle.writer.specs.declared.Derived.the-variants as D
@@ -38,11 +36,6 @@ use Rattle.category_lists.proofs.Columnwise.{behind-none, from-ok, from
 -- ---- the bytes of one list
 
 module _ {X : Type 0} (f : X → List ℕ) where
-  joined-append : (xs ys : List X) → joined f (xs ++ ys) ≡ joined f xs ++ joined f ys
-  unfolding joined
-  joined-append [] ys = refl
-  joined-append (x ∷ xs) ys = ap (λ (l : List ℕ). f x ++ l) (joined-append xs ys) ∙ sym (append-assoc (f x) (joined f xs) (joined f ys))
-
   joined-one : (x : X) → joined f (x ∷ []) ≡ f x
   unfolding joined
   joined-one x = append-nil (f x)
@@ -81,26 +74,29 @@ stored-above {k} t {limit} {store} {xs} s size h = go (ltb (length store) k) ref
 pub stored-list : {k : ℕ} (store : List ℤ) → k ≤ length store → Stored k store (take k store)
 stored-list store room = record { holds = λ h. refl; exceeds = λ h. absurd (omega (arith, h, room)) }
 
-module _ {k : ℕ} {store seen : List ℤ} (s : Stored k store seen) where
+-- one value more, by whatever test finds values the same
+module _ (same : ℤ → ℤ → Bool) {k : ℕ} {store seen : List ℤ} (s : Stored k store seen) where
   -- it was full before
-  pub stored-over : (r : ℕ) (x : ℤ) → length store < k → length store < r → Stored r store (noted eqZ seen x)
-  stored-over r x over h = record { holds = λ room. absurd (omega (arith, room, h)); exceeds = λ o. omega (arith, s .exceeds over, noted-keeps eqZ seen x) }
+  pub stored-over : (r : ℕ) (x : ℤ) → length store < k → length store < r → Stored r store (noted same seen x)
+  stored-over r x over h = record { holds = λ room. absurd (omega (arith, room, h)); exceeds = λ o. omega (arith, s .exceeds over, noted-keeps same seen x) }
 
-  -- one result more. v is what the code reads of x
+  -- v is what the code reads of x
   module _ {v x : ℤ} (read : v ≡ x) (room : k ≤ length store) {store′ : List ℤ} where
-    pub stored-noted : {m : ℕ} → Begins (noted eqZ (take k store) v) m store store′ → Stored m store′ (noted eqZ seen x)
-    stored-noted {m} b =
-        let same : noted eqZ (take k store) v ≡ noted eqZ seen x = (λ i. noted eqZ (s .holds room i) (read i)) in
-        record { holds = λ h. b .start ∙ same; exceeds = λ h. absurd (omega (arith, h, begins-room b)) }
+    -- the first m are those of before and x
+    pub stored-noted : {m : ℕ} → take m store′ ≡ noted same (take k store) v → m ≤ length store′ → Stored m store′ (noted same seen x)
+    stored-noted {m} start fits =
+        let one : noted same (take k store) v ≡ noted same seen x = (λ i. noted same (s .holds room i) (read i)) in
+        record { holds = λ h. start ∙ one; exceeds = λ h. absurd (omega (arith, h, fits)) }
 
-    pub stored-full : (r : ℕ) → length store < r → Lacks k v store store′ → Stored r store′ (noted eqZ seen x)
-    stored-full r h l =
-        let new : has eqZ x seen ≡ false = sym (λ i. has eqZ (read i) (s .holds room i)) ∙ l .new in
+    -- x is new, and there is no room for it
+    pub stored-full : (r : ℕ) → length store < r → has same v (take k store) ≡ false → length store ≤ k → store′ ≡ store → Stored r store′ (noted same seen x)
+    stored-full r h lacks full kept =
+        let new : has same x seen ≡ false = sym (λ i. has same (read i) (s .holds room i)) ∙ lacks in
         let taken : length seen ≡ k = sym (ap length (s .holds room)) ∙ length-take-le k store room in
-        let above : length store′ < length (noted eqZ seen x) =
-        omega (arith, ap length (noted-new eqZ seen x new), length-append seen (x ∷ []), taken, l .full, ap length (l .same))
+        let above : length store′ < length (noted same seen x) =
+        omega (arith, ap length (noted-new same seen x new), length-append seen (x ∷ []), taken, full, ap length kept)
         in
-        record { holds = λ o. absurd (omega (arith, o, h, ap length (l .same))); exceeds = λ o. above }
+        record { holds = λ o. absurd (omega (arith, o, h, ap length kept)); exceeds = λ o. above }
 
 -- ---- one list more
 
@@ -165,20 +161,20 @@ module _ {F : Form} {t : ℕ} {numbers values : List ℕ} {done : List (List ℤ
   tally-written nature {n} size = go (ltb (F .categoryLimit) t) refl
     where
       whole : Result Written
-      whole = ok (record { nature = nature; entries = length done; values = total done; first = numbersFrom F 0 done; second = valuesOf wholeBits done })
+      whole = ok (record { nature = nature; entries = length done; values = total done; text = 0; first = numbersFrom F 0 done; second = valuesOf wholeBits done })
 
       limit : {b : Bool} → ltb (F .categoryLimit) (total done) ≡ b → cond b (refused 26) whole ≡ listsWritten F nature (ok done)
       limit e = ap (λ (b : Bool). cond b (refused 26) whole) (sym e)
 
       go : (b : Bool) → ltb (F .categoryLimit) t ≡ b
-          → derivedIn (cond b (D.Refused 26) (D.Nature (record { nature = nature; entries = n; values = t; first = F .numberWidth * t; second = 8 * t }))) numbers values
+          → derivedIn (cond b (D.Refused 26) (D.Nature (record { nature = nature; entries = n; values = t; text = 0; first = F .numberWidth * t; second = 8 * t }))) numbers values
           ≡ listsWritten F nature (ok done)
       go true e = limit (lt-ltb (F .categoryLimit) (total done) (a .over (ltb-true (F .categoryLimit) t e)))
       go false e =
           let h = ltb-false (F .categoryLimit) t e in
           let count = a .count h in
-          let parts : _≡_ {A = Result Written} (ok (record { nature = nature; entries = n; values = t; first = take (F .numberWidth * t) numbers; second = take (8 * t) values })) whole =
-          (λ i. ok (record { nature = nature; entries = sym size i; values = count i; first = a .first h i; second = a .second h i }))
+          let parts : _≡_ {A = Result Written} (ok (record { nature = nature; entries = n; values = t; text = 0; first = take (F .numberWidth * t) numbers; second = take (8 * t) values })) whole =
+          (λ i. ok (record { nature = nature; entries = sym size i; values = count i; text = 0; first = a .first h i; second = a .second h i }))
           in
           parts ∙ limit (le-ltb (F .categoryLimit) (total done) (omega arith))
 
@@ -236,14 +232,14 @@ unfolding gathered
 gathered-within {F} nature n t {numbers} {values} h rooms = by (ltb (F .categoryLimit) t) refl
   where
     parts : Derived
-    parts = D.Nature (record { nature = nature; entries = n; values = t; first = F .numberWidth * t; second = 8 * t })
+    parts = D.Nature (record { nature = nature; entries = n; values = t; text = 0; first = F .numberWidth * t; second = 8 * t })
 
     by : (b : Bool) → ltb (F .categoryLimit) t ≡ b → Within F (listsRoom F) numbers values (cond b (D.Refused 26) parts)
     by true e = tt
     by false e =
         let few = ltb-false (F .categoryLimit) t e in
         let more = mul-le-mul-left (F .numberWidth) few in
-        record { entries = h; values = few; first-held = omega (arith, rooms .numbered); second-held = omega (arith, rooms .valued); both = omega arith }
+        record { entries = h; values = few; text = omega arith; first-held = omega (arith, rooms .numbered); second-held = omega (arith, rooms .valued); both = omega arith }
 
 -- the loop was left: all are done, or one was refused
 pub data Ended (F : Form) (f : ℕ → Result (List ℤ)) (n : ℕ) (numbers values : List ℕ) (code t : ℕ) : Type 0 where

@@ -1,12 +1,12 @@
 -- An operand's lists: what its sheet has room for, list j category by category, the list of a column, and what the code reads of it. Assumes nothing.
 use mathlib.Core.Path.{_≡_, refl, sym, ap, subst, _∙_}
 use mathlib.Core.Bool.{Bool, true, false, cond}
-use mathlib.Core.List.{List, [], _∷_}
+use mathlib.Core.List.{List, [], _∷_, map}
 use Prim.Native.Nat.{ℕ, zero, suc, _+_, _-_, _<_, _≤_}
 use native.Mathlib.Nat.{sub-zero}
 use native.Mathlib.Omega.{arith}
 use lib.IntN.{ℤ, pos}
-use lib.ListN.{length, take, getD, List·getD-eq-default}
+use lib.ListN.{length, take, getD, length-map, List·getD-map, List·getD-eq-default}
 use lib.Seq.{length-take-le, getD-take}
 use lib.Dec.{eqb, ltb}
 use borrow.Author.Tests.{ltb-true, ltb-false, eq-eqb, ne-eqb}
@@ -130,6 +130,12 @@ module _ {ℓ} {X : Type ℓ} (ls : List (List X)) (j : ℕ) where
 
   pub pick-own : (length ls ≡ 1 → ⊥) → pick ls j ≡ getD ls j []
   pick-own e = rw (ne-eqb (length ls) 1 e)
+
+-- lists of other elements
+pub pick-map : {X Y : Type 0} (f : X → Y) (ls : List (List X)) (j : ℕ) → pick (map (map f) ls) j ≡ map f (pick ls j)
+pick-map f ls j =
+    ap (λ (n : ℕ). getD (map (map f) ls) (cond (eqb n 1) 0 j) []) (length-map ls (map f))
+    ∙ List·getD-map (map f) ls (cond (eqb (length ls) 1) 0 j) []
 
 -- ---- what the code reads of a list that stands at the start of a store
 

@@ -27,6 +27,14 @@ pub record Arrays (F : Form) (numbers values : List ℕ) : Type 0 where
   pub numbered : F .numberWidth * F .categoryLimit ≤ length numbers
   pub valued : 8 * F .categoryLimit ≤ length values
 
+-- the same for texts, whose area stands behind their values
+pub record TextStores (F : Form) (us bs store : List ℤ) (numbers values : List ℕ) : Type 0 where
+  pub lefts : length us ≡ F .categoryLimit
+  pub rights : length bs ≡ F .categoryLimit
+  pub results : length store ≡ F .categoryLimit
+  pub numbered : F .numberWidth * F .categoryLimit ≤ length numbers
+  pub valued : 8 * F .categoryLimit + F .textLimit ≤ length values
+
 -- the k values xs stand at the start of the store; or k is above the store's length, and they are more than it has room for
 pub record Stored (k : ℕ) (store xs : List ℤ) : Type 0 where
   pub holds : k ≤ length store → take k store ≡ xs
@@ -45,7 +53,7 @@ module _ (F : Form) where
   unfoldable pub gathered : ℕ → ℕ → ℕ → Derived
   gathered nature n t =
       cond (ltb (F .categoryLimit) t) (D.Refused 26)
-      (D.Nature (record { nature = nature; entries = n; values = t; first = F .numberWidth * t; second = 8 * t }))
+      (D.Nature (record { nature = nature; entries = n; values = t; text = 0; first = F .numberWidth * t; second = 8 * t }))
 
   -- the same, of the lists themselves: lists of a nature in writing, their values as whole numbers
   abbrev pub listsWritten : ℕ → Result (List (List ℤ)) → Result Written
@@ -53,7 +61,7 @@ module _ (F : Form) where
       andThen g
       (λ ls.
       cond (ltb (F .categoryLimit) (total ls)) (refused 26)
-      (ok (record { nature = nature; entries = length ls; values = total ls; first = numbersFrom F 0 ls; second = valuesOf wholeBits ls })))
+      (ok (record { nature = nature; entries = length ls; values = total ls; text = 0; first = numbersFrom F 0 ls; second = valuesOf wholeBits ls })))
 
   -- the lists `done` are written, or they hold too many categories
   pub record Tally (t : ℕ) (numbers values : List ℕ) (done : List (List ℤ)) : Type 0 where

@@ -1,5 +1,5 @@
--- 01, "Categories", and 02, S-1: lists mapped or combined by a rule, or united.
-use mathlib.Core.Bool.{Bool, cond}
+-- 01, "Categories", and 02, S-1 and S-2: lists mapped or combined by a rule, or united.
+use mathlib.Core.Bool.{Bool, true, false, cond, _&&_}
 use mathlib.Core.List.{List, [], _∷_, _++_}
 use mathlib.Core.Option.{Option, none, some}
 use Prim.Native.Nat.{ℕ, _-_, _%_, suc}
@@ -9,9 +9,9 @@ use Rattle.numbers.specs.Result.{Result, ok, refused, andThen}
 use Rattle.numbers.specs.Checked.{inRange, checkedOf}
 use Rattle.numbers.specs.Kind.{whole, fitting}
 use Rattle.utilities.specs.Lists.{firsts, standardized}
-use Rattle.base.specs.Form.{intType}
+use Rattle.base.specs.Form.{Form, intType}
 use Rattle.base.specs.Sheet.{Nature, wholeLists}
-use Rattle.base.specs.Encode.{valueCount}
+use Rattle.base.specs.Encode.{valueCount, textSize}
 use Rattle.base.specs.declared.Component.{Component}
 use Rattle.base.specs.declared.Component.the-variants as C
 use Rattle.utilities.specs.Columns.{each, eachPair}
@@ -48,7 +48,7 @@ categoryRule C.Negative type = some (λ a b. whole .neg a)
 categoryRule C.Pool type = none
 
 -- 22: "The component has no rule for this category kind"
-abbrev pub ruled : {X : Type 0} → Option (ℤ → ℤ → Result ℤ) → ((ℤ → ℤ → Result ℤ) → Result X) → Result X
+abbrev pub ruled : {X E : Type 0} → Option (E → E → Result E) → ((E → E → Result E) → Result X) → Result X
 ruled none rest = refused 22
 ruled (some rule) rest = rest rule
 
@@ -56,7 +56,30 @@ ruled (some rule) rest = rest rule
 abbrev pub ruleOf : Component → ℤ → ℤ → Result ℤ
 ruleOf c a b = ruled (categoryRule c intType) (λ rule. rule a b)
 
--- ---- lists of any elements, by their rule and their equality: of whole numbers, by `categoryRule` and `eqZ`
+-- 02, S-2: "Add joins left text and right text, .. Every other component has no rule for them under 22, but Pool unites them"
+abbrev pub joinRule : List ℕ → List ℕ → Result (List ℕ)
+joinRule x y = ok (x ++ y)
+
+abbrev pub textRule : Component → Option (List ℕ → List ℕ → Result (List ℕ))
+textRule C.Abs = none
+textRule C.Add = some joinRule
+textRule C.Subtract = none
+textRule C.Multiply = none
+textRule C.Divide = none
+textRule C.Modulo = none
+textRule C.Log = none
+textRule C.Power = none
+textRule C.Negative = none
+textRule C.Pool = none
+
+-- 02, S-2: "equal bytes count as repeats"
+unfoldable pub sameText : List ℕ → List ℕ → Bool
+sameText [] [] = true
+sameText [] (y ∷ ys) = false
+sameText (x ∷ xs) [] = false
+sameText (x ∷ xs) (y ∷ ys) = eqb x y && sameText xs ys
+
+-- ---- lists of any elements, by their rule and their equality: of whole numbers, by `categoryRule` and `eqZ`; of texts, by `textRule` and `sameText`
 
 -- 01: "Pairs run left outer, right inner"; "The first pair that fails ends the whole product"
 unfoldable pub pairs : {X : Type 0} → (X → X → Result X) → List X → List X → Result (List X)
@@ -87,6 +110,14 @@ module _ {X : Type 0} (same : X → X → Bool) where
 -- 26: "The result holds over 128 categories, counted as they would be written"; tested only if no pair fails
 unfoldable pub keptTo : ℕ → Nature → Result Nature
 keptTo limit k = cond (ltb limit (valueCount k)) (refused 26) (ok k)
+
+-- 28, 02, S-2: "the result's text exceeds 1,024 bytes after repeats go, directly after 26"
+unfoldable pub textKept : ℕ → Nature → Result Nature
+textKept limit k = cond (ltb limit (textSize k)) (refused 28) (ok k)
+
+-- 26, then 28
+abbrev pub kept : Form → Nature → Result Nature
+kept F k = andThen (keptTo (F .categoryLimit) k) (textKept (F .textLimit))
 
 -- the nature of lists that keep to the limit
 abbrev pub limited : ℕ → Result (List (List ℤ)) → Result Nature

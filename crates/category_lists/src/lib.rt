@@ -164,6 +164,7 @@ pub fn gather(f: Form, nature: u8, n: usize, t: usize) -> Derived
         nature,
         entries: n,
         values: t,
+        text: 0,
         first: f.numbers_length(t),
         second: form::VALUE_WIDTH * t,
     })

@@ -5,14 +5,13 @@ use base::refusals;
 use spans::Faults;
 ghost use mathlib.Core.Path.{_≡_};
 ghost use mathlib.Core.Bool.{false};
-ghost use Prim.Native.Nat.{_+_, _≤_, _<_};
+ghost use Prim.Native.Nat.{_+_, _*_, _^_, _≤_, _<_};
 ghost use lib.Dec.{eqb};
 ghost use lib.ListN.{length};
-ghost use Rattle.base.specs.Form.{formOf, byteAt, reservedAt, reservedCount, fieldsEnd};
-ghost use Rattle.base.specs.Checks.{read, holdsFrom, sizesFail, fieldPermitted, gapPermitted, bytesPermitted, valuesPermitted, columnsPermitted, keyPermitted, groupsPermitted, numberPermitted, listsPermitted, boolPermitted};
+ghost use Rattle.base.specs.Form.{formOf, byteAt, laterAt, laterCount, fieldsEnd};
+ghost use Rattle.base.specs.Checks.{read, holdsFrom, sizesFail, fieldPermitted, gapPermitted, valuesPermitted, columnsPermitted, keyPermitted, groupsPermitted, numberPermitted, listsPermitted, boolPermitted, endToEnd};
 ghost use Rattle.base.specs.Sized.{GroupsFit, ListsFit};
-ghost use Rattle.base.specs.Entries.{headFails};
-ghost use Rattle.checks.specs.Found.{NatureFaults};
+ghost use Rattle.checks.specs.Found.{NatureFaults, tailPermitted, headBytes, headFault, aroundText};
 ghost use Rattle.base.specs.Code.{codeOf};
 
 mod spans; // 4 and 5 of a range
@@ -39,17 +38,19 @@ fn sizes_fail(f: Form, s: &[u8]) -> bool
     if f.category_limit() < t {
         return true;
     }
-    s.len() != f.called_for(base::nature_of(f, s), g, n, t)
+    let a = base::area_size(f, s);
+    (f.text_limit() < a) | (s.len() != f.called_for(base::nature_of(f, s), g, n, t, a))
 }
 
 // ---- 4, the fields of one value
 
-// Whether the bytes behind the marks are zero: the last mark and these seven are one number of 64 bits.
-fn reserved_permitted(f: Form, s: &[u8]) -> bool
+// A nature other than text has no area: the last mark and the seven bytes behind it, which are then zero, are one number of 64 bits. What a text has there is
+// tested with its area.
+fn tail_permitted(f: Form, s: &[u8]) -> bool
     requires { ⌜ formOf f .arraysAt ≤ length (now s) ⌝ }
-    ensures { λ r. ⌜ r ≡ holdsFrom reservedCount reservedAt (λ k. eqb (byteAt (formOf f) k (now (s .entry))) 0) ⌝ }
+    ensures { λ r. ⌜ r ≡ tailPermitted (formOf f) (now (s .entry)) ⌝ }
 {
-    base::u64_in(f, s, form::SAMPLE_MARK_AT) < 256
+    (base::u64_in(f, s, form::SAMPLE_MARK_AT) < 256) | (base::nature_of(f, s) == form::TEXT_LISTS)
 }
 
 // Whether the bytes between the last field and the arrays are zero.
@@ -65,7 +66,7 @@ fn gap_permitted(f: Form, s: &[u8]) -> bool
 
 fn bytes_permitted(f: Form, s: &[u8]) -> bool
     requires { ⌜ formOf f .arraysAt ≤ length (now s) ⌝ }
-    ensures { λ r. ⌜ r ≡ bytesPermitted (formOf f) (now (s .entry)) ⌝ }
+    ensures { λ r. ⌜ r ≡ headBytes (formOf f) (now (s .entry)) ⌝ }
 {
     (base::nature_of(f, s) <= form::LAST_NATURE)
         & (base::byte_in(f, s, form::TYPE_AT) <= form::LAST_TYPE)
@@ -73,7 +74,7 @@ fn bytes_permitted(f: Form, s: &[u8]) -> bool
         & (base::byte_in(f, s, form::RELEASABLE_AT) <= 1)
         & (base::byte_in(f, s, form::NOT_EMPTY_AT) <= 1)
         & (base::byte_in(f, s, form::ORDERED_AT) <= 1)
-        & reserved_permitted(f, s)
+        & tail_permitted(f, s)
         & gap_permitted(f, s)
 }
 
@@ -179,12 +180,49 @@ fn lists_permitted(f: Form, s: &[u8], g: usize, n: usize, t: usize) -> bool
     numbers
 }
 
-// ---- 4 of all that stands before the nature's arrays; 4 and 5 of the nature
+// ---- 4, the text area
 
-// Whether a field of one value or a group has none of its permitted values.
+// Whether the four bytes behind the area's size are zero.
+fn later_permitted(f: Form, s: &[u8]) -> bool
+    requires { ⌜ formOf f .arraysAt ≤ length (now s) ⌝ }
+    ensures { λ r. ⌜ r ≡ holdsFrom laterCount laterAt (λ k. eqb (byteAt (formOf f) k (now (s .entry))) 0) ⌝ }
+{
+    base::u32_in(f, s, form::LATER_AT) == 0
+}
+
+// Whether the t texts lie end to end from 0 to the area's end. Lengths of 32 bits are added in 64.
+fn texts_permitted(f: Form, s: &[u8], g: usize, n: usize, t: usize) -> bool
+    requires { ⌜ ListsFit (formOf f) (now s) g n t ⌝ }
+    ensures { λ r. ⌜ r ≡ endToEnd (formOf f) (now (s .entry)) t 0 0 ⌝ }
+{
+    let mut bad = false;
+    let mut at: u64 = 0;
+    let mut i = 0;
+    while i < t {
+        let v = base::u64_at(s, f.value_at(g, t, i));
+        bad = bad | (v % 0x1_0000_0000 != at);
+        at += v / 0x1_0000_0000;
+        i += 1;
+    }
+    !bad & (at == base::area_size(f, s) as u64)
+}
+
+// Whether the area of t texts is permitted, with the bytes around its size.
+fn area_permitted(f: Form, s: &[u8], g: usize, n: usize, t: usize) -> bool
+    requires { ⌜ ListsFit (formOf f) (now s) g n t ⌝ }
+    ensures { λ r. ⌜ r ≡ aroundText (formOf f) (now (s .entry)) t ⌝ }
+{
+    (base::byte_in(f, s, form::RESERVED_AT) == 0)
+        & later_permitted(f, s)
+        & texts_permitted(f, s, g, n, t)
+}
+
+// ---- 4 of all that stands before the nature's arrays; 4 and 5 of the nature, and of the text area
+
+// Whether a field of one value, a group or the area's size has none of its permitted values.
 fn head_fails(f: Form, s: &[u8]) -> bool
     requires { ⌜ sizesFail (formOf f) (now s) ≡ false ⌝ }
-    ensures { λ r. ⌜ r ≡ headFails (formOf f) (now (s .entry)) ⌝ }
+    ensures { λ r. ⌜ r ≡ headFault (formOf f) (now (s .entry)) ⌝ }
 {
     let sizes = base::sizes_at(f, s);
     let g = sizes.groups;
@@ -212,6 +250,12 @@ fn nature_faults(f: Form, s: &[u8]) -> Faults
         return Faults {
             fields: (t != 0) | entries.fields,
             bounds: entries.bounds,
+        };
+    }
+    if nature == form::TEXT_LISTS {
+        return Faults {
+            fields: !(lists_permitted(f, s, g, n, t) & area_permitted(f, s, g, n, t)),
+            bounds: false,
         };
     }
     Faults {

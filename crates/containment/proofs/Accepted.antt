@@ -104,7 +104,7 @@ module _ (p : List ℕ) where
         component = d .component;
         listed = d .listed;
         sheet = d .sheet;
-        derived = ap₂ (λ (x y : Sheet). derive (narrow .categoryLimit) (d .component) x y) l r ∙ d .derived;
+        derived = ap₂ (λ (x y : Sheet). derive narrow (d .component) x y) l r ∙ d .derived;
         is = sheets-same (k + 1) after next e k (omega arith) ∙ d .is;
       }
 

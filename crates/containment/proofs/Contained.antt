@@ -16,7 +16,7 @@ use borrow.Author.Tests.{eqb-true, eqb-false, ltb-true, ltb-false, lt-ltb}
 use Rattle.numbers.specs.Result.{ok}
 use Rattle.utilities.specs.Lists.{listFrom}
 use Rattle.base.specs.Form.{narrow}
-use Rattle.base.specs.Sheet.{Sheet, Nature, absent, wholeRange, floatRange, wholeLists, boolLists, floatLists}
+use Rattle.base.specs.Sheet.{Sheet, Nature, absent, wholeRange, floatRange, wholeLists, boolLists, floatLists, textLists}
 use Rattle.base.specs.Decode.{decode}
 use Rattle.base.specs.Components.{componentOf, familyOf}
 use Rattle.base.specs.declared.Component.{Component}
@@ -52,6 +52,7 @@ whole-fitting (floatRange rs) n h = h
 whole-fitting (wholeLists ls) n h = h
 whole-fitting (boolLists ls) n h = h
 whole-fitting (floatLists ls) n h = h
+whole-fitting (textLists ls) n h = h
 
 -- a node number changes neither columns nor nature
 good-node : (z : ℤ) (s : Sheet) (rs : Results) → Good s rs → Good (withNode z s) rs
@@ -159,11 +160,11 @@ module _ (p work after : List ℕ) (a : Accepted p work after) where
         let d = a .derives k b c in
         let l = sheetOf narrow p work after (leftOf p k) in
         let r = sheetOf narrow p work after (rightOf p k) in
-        let e : derive (narrow .categoryLimit) (d .component) l r ≡ ok (d .sheet) =
-        ap₂ (λ (x y : Sheet). derive (narrow .categoryLimit) (d .component) x y) (sheet-after (leftOf p k)) (sheet-after (rightOf p k)) ∙ d .derived in
+        let e : derive narrow (d .component) l r ≡ ok (d .sheet) =
+        ap₂ (λ (x y : Sheet). derive narrow (d .component) x y) (sheet-after (leftOf p k)) (sheet-after (rightOf p k)) ∙ d .derived in
         let u = subst (λ (n : Numbered). Suits n l r) (d .listed) (h .components k b c) in
         let side = row .side k in
-        let good = step-good side (narrow .categoryLimit) (d .component) l r (d .sheet) xs ys e g f (h .operandColumns k b c) u in
+        let good = step-good side narrow (d .component) l r (d .sheet) xs ys e g f (h .operandColumns k b c) u in
         let is = sheet-after k ∙ d .is in
         subst
         (λ (n : Numbered). Good (sheetOf narrow p work after k) (listFrom (columnsOf (sheetOf narrow p work after k .fields)) 0 (λ j. exactOf side n (columnOf xs j) (columnOf ys j))))

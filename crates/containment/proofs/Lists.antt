@@ -15,11 +15,12 @@ use Rattle.numbers.proofs.Results.{never, then-ok-inv}
 use Rattle.utilities.specs.Lists.{firsts, standardized}
 use Rattle.utilities.specs.Columns.{each, eachPair}
 use Rattle.utilities.proofs.Members.{Equals, firsts-all}
-use Rattle.base.specs.Encode.{valueCount}
+use Rattle.base.specs.Form.{Form}
+use Rattle.base.specs.Encode.{valueCount, textSize}
 use Rattle.base.specs.Sheet.{Nature, wholeLists}
 use Rattle.base.specs.declared.Component.{Component}
 use Rattle.base.specs.declared.Component.the-variants as C
-use Rattle.category_lists.specs.Categories.{categoryRule, pairs, product, mapped, union, keptTo, limited}
+use Rattle.category_lists.specs.Categories.{categoryRule, pairs, product, mapped, union, keptTo, textKept, kept, limited}
 use Rattle.derived.proofs.Answers.{ok-same, some-same}
 use Rattle.containment.specs.Exact.{Side, exact}
 use Rattle.containment.specs.Demand.{entryFor, InList, OneOrPerColumn}
@@ -124,15 +125,24 @@ union-exact side a b v x y e m n w =
     let t = taken-is a b (λ n. List·Memᴰ n (x ++ y)) side (Memᴰ·append-left y m) (Memᴰ·append-right x n) in
     in-list (ok-same e) (firsts-all eqZ eqZ-true v (x ++ y) (Memᴰ·cast (some-same (sym w)) t))
 
--- ---- 26 changes nothing of what it passes
+-- ---- 26 and 28 change nothing of what they pass
 
-pub kept-ok : (limit : ℕ) (k : Nature) {n : Nature} → keptTo limit k ≡ ok n → k ≡ n
+passed-ok : (t : Bool) (number : ℕ) (k : Nature) {n : Nature} → cond t (refused number) (ok k) ≡ ok n → k ≡ n
+passed-ok true number k e = absurd (never (sym e))
+passed-ok false number k e = ok-same e
+
+kept-to-ok : (limit : ℕ) (k : Nature) {n : Nature} → keptTo limit k ≡ ok n → k ≡ n
 unfolding keptTo
-kept-ok limit k e = go (ltb limit (valueCount k)) e
-  where
-    go : (t : Bool) {n : Nature} → cond t (refused 26) (ok k) ≡ ok n → k ≡ n
-    go true e = absurd (never (sym e))
-    go false e = ok-same e
+kept-to-ok limit k e = passed-ok (ltb limit (valueCount k)) 26 k e
+
+text-kept-ok : (limit : ℕ) (k : Nature) {n : Nature} → textKept limit k ≡ ok n → k ≡ n
+unfolding textKept
+text-kept-ok limit k e = passed-ok (ltb limit (textSize k)) 28 k e
+
+pub kept-ok : (F : Form) (k : Nature) {n : Nature} → kept F k ≡ ok n → k ≡ n
+kept-ok F k e =
+    let s = then-ok-inv (keptTo (F .categoryLimit) k) (textKept (F .textLimit)) e in
+    kept-to-ok (F .categoryLimit) k (s .is) ∙ text-kept-ok (F .textLimit) (s .value) (s .after)
 
 pub limited-ok : (limit : ℕ) (g : Result (List (List ℤ))) {k : Nature} → limited limit g ≡ ok k → (ls : List (List ℤ)) × (g ≡ ok ls) × (wholeLists ls ≡ k)
-limited-ok limit g e = let s = then-ok-inv g _ e in (s .value, s .is, kept-ok limit (wholeLists (s .value)) (s .after))
+limited-ok limit g e = let s = then-ok-inv g _ e in (s .value, s .is, kept-to-ok limit (wholeLists (s .value)) (s .after))

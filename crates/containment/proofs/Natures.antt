@@ -11,7 +11,8 @@ use Rattle.numbers.proofs.Choices.{eqZ-true}
 use Rattle.numbers.proofs.Parts.{abs-zero}
 use Rattle.numbers.proofs.Results.{never, then-ok-inv}
 use Rattle.utilities.specs.Columns.{each}
-use Rattle.base.specs.Sheet.{Nature, absent, wholeRange, floatRange, wholeLists, boolLists, floatLists}
+use Rattle.base.specs.Form.{Form}
+use Rattle.base.specs.Sheet.{Nature, absent, wholeRange, floatRange, wholeLists, boolLists, floatLists, textLists}
 use Rattle.base.specs.declared.Component.{Component}
 use Rattle.base.specs.declared.Component.the-variants as C
 use Rattle.ends.specs.Ends.{endRule}
@@ -57,12 +58,14 @@ admitted-defined C.Divide l (floatRange rs) j b k q = absurd k
 admitted-defined C.Divide l (wholeLists ls) j b k q = list-off-zero (entryFor ls j) b k q
 admitted-defined C.Divide l (boolLists ls) j b k q = absurd k
 admitted-defined C.Divide l (floatLists ls) j b k q = absurd k
+admitted-defined C.Divide l (textLists ls) j b k q = absurd k
 admitted-defined C.Modulo l absent j b k q = absurd k
 admitted-defined C.Modulo l (wholeRange rs) j b k q = span-defined C.Modulo (entryFor rs j) b k q
 admitted-defined C.Modulo l (floatRange rs) j b k q = absurd k
 admitted-defined C.Modulo l (wholeLists ls) j b k q = absurd k
 admitted-defined C.Modulo l (boolLists ls) j b k q = absurd k
 admitted-defined C.Modulo l (floatLists ls) j b k q = absurd k
+admitted-defined C.Modulo l (textLists ls) j b k q = absurd k
 admitted-defined C.Log l r j b k q = k
 admitted-defined C.Power l absent j b k q = absurd k
 admitted-defined C.Power l (wholeRange rs) j b k q = span-defined C.Power (entryFor rs j) b k q
@@ -70,6 +73,7 @@ admitted-defined C.Power l (floatRange rs) j b k q = absurd k
 admitted-defined C.Power l (wholeLists ls) j b k q = absurd k
 admitted-defined C.Power l (boolLists ls) j b k q = absurd k
 admitted-defined C.Power l (floatLists ls) j b k q = absurd k
+admitted-defined C.Power l (textLists ls) j b k q = absurd k
 admitted-defined C.Negative l r j b k q = tt
 admitted-defined C.Pool l r j b k q = tt
 
@@ -114,6 +118,7 @@ module _ (side : Side) (c : Component) (type columns : ℕ) where
   two-derived together (wholeRange xs) (wholeLists ms) law o p e = nothing (wholeRange xs) (wholeLists ms) e
   two-derived together (wholeRange xs) (boolLists ms) law o p e = absurd p
   two-derived together (wholeRange xs) (floatLists ms) law o p e = absurd p
+  two-derived together (wholeRange xs) (textLists ms) law o p e = absurd p
   two-derived together (floatRange xs) r law o p e = absurd o
   two-derived together (wholeLists ls) absent law o p e = nothing (wholeLists ls) absent e
   two-derived together (wholeLists ls) (wholeRange ys) law o p e = nothing (wholeLists ls) (wholeRange ys) e
@@ -121,15 +126,17 @@ module _ (side : Side) (c : Component) (type columns : ℕ) where
   two-derived together (wholeLists ls) (wholeLists ms) {k} law o p e = law ls ms k o p e
   two-derived together (wholeLists ls) (boolLists ms) law o p e = absurd p
   two-derived together (wholeLists ls) (floatLists ms) law o p e = absurd p
+  two-derived together (wholeLists ls) (textLists ms) law o p e = absurd p
   two-derived together (boolLists ls) r law o p e = absurd o
   two-derived together (floatLists ls) r law o p e = absurd o
+  two-derived together (textLists ls) r law o p e = absurd o
 
-  module _ (limit : ℕ) where
-    lists : Together (listsPair limit c type columns)
+  module _ (F : Form) where
+    lists : Together (listsPair F c type columns)
     unfolding listsPair combined
     lists ls ms k o p e =
-        let f = ruled-inv (categoryRule c type) (λ rule. limited limit (combined eqZ rule columns ls ms)) (checked-rest _ _ e) in
-        let g = limited-ok limit (combined eqZ (f .0) columns ls ms) (f .2) in
+        let f = ruled-inv (categoryRule c type) (λ rule. limited (F .categoryLimit) (combined eqZ rule columns ls ms)) (checked-rest _ _ e) in
+        let g = limited-ok (F .categoryLimit) (combined eqZ (f .0) columns ls ms) (f .2) in
         let op = product eqZ (f .0) in
         subst (λ (k : Nature). Derived side c columns (wholeLists ls) (wholeLists ms) k) (g .2)
         (record {
@@ -140,9 +147,10 @@ module _ (side : Side) (c : Component) (type columns : ℕ) where
         })
 
     pub binary-derived : (l r : Nature) {k : Nature} → Spread l columns → Spread r columns
-        → binaryNature limit c type columns l r ≡ ok k → Derived side c columns l r k
-    binary-derived l r = two-derived (listsPair limit c type columns) l r lists
+        → binaryNature F c type columns l r ≡ ok k → Derived side c columns l r k
+    binary-derived l r = two-derived (listsPair F c type columns) l r lists
 
+  module _ (limit : ℕ) where
     -- a component that reads the left alone asks nothing of the right, and its result is the left's
     module _ (r : Nature) (asks : (o : Option (Span ℤ)) → Asks c o) (left : (a b : ℤ) → exact side c a a ≡ exact side c a b) where
       alone-range : (xs : List (Span ℤ)) {k : Nature} → andThen (rangeAlone (endRule whole c) columns xs) (λ zs. ok (wholeRange zs)) ≡ ok k
@@ -179,6 +187,7 @@ module _ (side : Side) (c : Component) (type columns : ℕ) where
       unary-derived (wholeLists ls) o e = alone-lists ls o e
       unary-derived (boolLists ls) o e = absurd o
       unary-derived (floatLists ls) o e = absurd o
+      unary-derived (textLists ls) o e = absurd o
 
 module _ (side : Side) (type columns : ℕ) where
   unions : Together side C.Pool type columns (listsUnited columns)

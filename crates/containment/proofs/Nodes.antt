@@ -14,7 +14,7 @@ use borrow.Author.Tests.{eqb-true, eqb-false}
 use Rattle.numbers.specs.Kind.{Span}
 use Rattle.utilities.specs.Lists.{listFrom}
 use Rattle.utilities.proofs.Built.{listFrom-length, listFrom-at}
-use Rattle.base.specs.Sheet.{Sheet, Nature, absent, wholeRange, floatRange, wholeLists, boolLists, floatLists}
+use Rattle.base.specs.Sheet.{Sheet, Nature, absent, wholeRange, floatRange, wholeLists, boolLists, floatLists, textLists}
 use Rattle.base.specs.declared.Component.{Component}
 use Rattle.base.specs.declared.Numbered.the-variants as N
 use Rattle.shape.specs.Shape.{columnsOf}
@@ -37,6 +37,7 @@ keeps-any (floatRange rs) i j v f h = absurd f
 keeps-any (wholeLists ls) i j v f h = subst (λ (o : Option (List ℤ)). InList o v) (entry-one ls i j (only ls f)) h
 keeps-any (boolLists ls) i j v f h = absurd f
 keeps-any (floatLists ls) i j v f h = absurd f
+keeps-any (textLists ls) i j v f h = absurd f
 
 pub off-any : (k : Nature) (i j : ℕ) → Fitting k 1 → OffZero k i → OffZero k j
 off-any absent i j f h = absurd h
@@ -45,6 +46,7 @@ off-any (floatRange rs) i j f h = absurd h
 off-any (wholeLists ls) i j f h = subst ListOffZero (entry-one ls i j (only ls f)) h
 off-any (boolLists ls) i j f h = absurd h
 off-any (floatLists ls) i j f h = absurd h
+off-any (textLists ls) i j f h = absurd h
 
 -- ---- column counts
 
@@ -70,6 +72,7 @@ serves-spread (wholeLists ls) {m} {n} s f =
     f
 serves-spread (boolLists ls) s f = f
 serves-spread (floatLists ls) s f = f
+serves-spread (textLists ls) s f = f
 
 -- ---- a node's columns
 

@@ -18,7 +18,7 @@ use Rattle.utilities.specs.Lists.{every}
 use Rattle.utilities.proofs.Built.{every-at}
 use Rattle.base.specs.Bounds.{everyEntry, lowersPresent, uppersPresent, lowersPositive, lowersNonNegative}
 use Rattle.base.specs.Form.{intType}
-use Rattle.base.specs.Sheet.{Sheet, Nature, absent, wholeRange, floatRange, wholeLists, boolLists, floatLists, isWholeRange}
+use Rattle.base.specs.Sheet.{Sheet, Nature, absent, wholeRange, floatRange, wholeLists, boolLists, floatLists, textLists, isWholeRange}
 use Rattle.base.specs.declared.Component.{Component}
 use Rattle.base.proofs.Flags.{and-both}
 use Rattle.orders.specs.Orders.{operandChecks, bothOf, moduloChecks, logChecks, powerChecks, boundChecks, copyChecks}
@@ -63,6 +63,7 @@ module _ (p : Span ℤ → Bool) (q : Span Float → Bool) where
   range-spread (wholeLists ls) m n e f = absurd (subst T (sym e) tt)
   range-spread (boolLists ls) m n e f = f
   range-spread (floatLists ls) m n e f = f
+  range-spread (textLists ls) m n e f = f
 
   range-whole : (k : Nature) (m : ℕ) → everyEntry p q k ≡ true → Fitting k m → isWholeRange k ≡ true
   unfolding everyEntry
@@ -72,6 +73,7 @@ module _ (p : Span ℤ → Bool) (q : Span Float → Bool) where
   range-whole (wholeLists ls) m e f = e
   range-whole (boolLists ls) m e f = absurd f
   range-whole (floatLists ls) m e f = absurd f
+  range-whole (textLists ls) m e f = absurd f
 
 elem-is {ℓ} : {X : Type ℓ} (xs : List X) (j : ℕ) (d : X) → j < length xs → getElem? xs j ≡ some (getD xs j d)
 elem-is [] j d h = absurd (omega arith)
@@ -101,6 +103,7 @@ module _ (p : Span ℤ → Bool) (P : Option (Span ℤ) → Type 0) (says : (y :
   range-says q (wholeLists ls) m j e f w = subst T (sym e) tt
   range-says q (boolLists ls) m j e f w = f
   range-says q (floatLists ls) m j e f w = f
+  range-says q (textLists ls) m j e f w = f
 
 -- ---- Modulo, Power and Log
 

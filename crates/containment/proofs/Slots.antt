@@ -103,7 +103,7 @@ pub record Derives (p : List ℕ) (k : ℕ) (x y : List ℕ) : Type 0 where
   pub component : Component
   pub listed : componentOf (componentNumber p k) ≡ N.Is component
   pub sheet : Sheet
-  pub derived : derive (narrow .categoryLimit) component (sheetAt (leftOf p k) x) (sheetAt (rightOf p k) x) ≡ ok sheet
+  pub derived : derive narrow component (sheetAt (leftOf p k) x) (sheetAt (rightOf p k) x) ≡ ok sheet
   pub is : sheetAt k y ≡ numbered (familyOf component) k sheet
 
 pub record Stepped (p : List ℕ) (k : ℕ) (work after : List ℕ) : Type 0 where

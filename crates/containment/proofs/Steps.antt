@@ -9,6 +9,7 @@ use lib.ListN.{length}
 use Rattle.numbers.specs.Kind.{Span}
 use Rattle.numbers.specs.Result.{ok, checked}
 use Rattle.numbers.proofs.Results.{then-ok-inv}
+use Rattle.base.specs.Form.{Form}
 use Rattle.base.specs.Sheet.{Sheet, Nature}
 use Rattle.base.specs.declared.Component.{Component}
 use Rattle.base.specs.declared.Component.the-variants as C
@@ -17,7 +18,7 @@ use Rattle.shape.specs.Shape.{columnsOf, widest, rowsSum}
 use Rattle.orders.specs.Orders.{unaryChecks, pairChecks, boundChecks, copyChecks, lastChecks, poolChecks}
 use Rattle.shape.specs.Fields.{pairFields, copyFields, poolFields, pairSheet, copySheet, poolSheet, unarySheet}
 use Rattle.calls.specs.Natures.{binaryNature, poolNature, unaryNature}
-use Rattle.category_lists.specs.Categories.{keptTo}
+use Rattle.category_lists.specs.Categories.{kept}
 use Rattle.calls.specs.Derive.{deriveUnary, derivePair, deriveCopy, derivePool, derive}
 use Rattle.derived.proofs.Answers.{ok-same, some-same, checked-rest}
 use Rattle.containment.specs.Exact.{Side, Results, exact}
@@ -47,7 +48,7 @@ serves-right w o p e = by-match w (λ h. inl (omega arith)) (λ h. inl (omega ar
 reaches-right : {m n : ℕ} (j : ℕ) → Matching m n → 1 ≤ n → j < m → Reaches n j
 reaches-right j w p i = by-match w (λ h. inl (omega arith)) (λ h. inl (omega arith)) (λ h. inr h)
 
-module _ (side : Side) (limit : ℕ) (c : Component) (l r s : Sheet) (xs ys : Results) (g : Good l xs) (h : Good r ys) (w : ColumnsMatch l r) where
+module _ (side : Side) (F : Form) (c : Component) (l r s : Sheet) (xs ys : Results) (g : Good l xs) (h : Good r ys) (w : ColumnsMatch l r) where
   matching : Matching (length xs) (length ys)
   matching =
       ⊎-elim
@@ -81,13 +82,13 @@ module _ (side : Side) (limit : ℕ) (c : Component) (l r s : Sheet) (xs ys : Re
       (d (serves-spread (l .nature) a (g .fits)) (serves-spread (r .nature) b (h .fits)))
       (λ j i. serves-reaches j a i) (λ j i. serves-reaches j b i) (λ j i. k j (serves-reaches j b i))
 
-  pair-good : derivePair limit c l r ≡ ok s → ((j : ℕ) → Reaches (length ys) j → Admitted c (l .nature) (r .nature) j) → Good s (stepOf side c s xs ys)
+  pair-good : derivePair F c l r ≡ ok s → ((j : ℕ) → Reaches (length ys) j → Admitted c (l .nature) (r .nature) j) → Good s (stepOf side c s xs ys)
   unfolding derivePair pairFields wide
   pair-good e k =
-      let t = then-ok-inv (binaryNature limit c (l .fields .dataType) wide (l .nature) (r .nature)) _ (checked-rest (pairChecks l r) _ e) in
+      let t = then-ok-inv (binaryNature F c (l .fields .dataType) wide (l .nature) (r .nature)) _ (checked-rest (pairChecks l r) _ e) in
       subst (λ (s : Sheet). Good s (stepOf side c s xs ys)) (ok-same (t .after))
       (wide-good (pairSheet c l r (t .value)) refl
-      (λ a b. binary-derived side c (l .fields .dataType) wide limit (l .nature) (r .nature) a b (t .is)) k)
+      (λ a b. binary-derived side c (l .fields .dataType) wide F (l .nature) (r .nature) a b (t .is)) k)
 
   -- ---- 6 to 8, and 1 and 9: the left's columns
 
@@ -106,50 +107,50 @@ module _ (side : Side) (limit : ℕ) (c : Component) (l r s : Sheet) (xs ys : Re
   left-spread : Spread (l .nature) (columnsOf (l .fields))
   left-spread = serves-spread (l .nature) (inl (sym (columns-are g))) (g .fits)
 
-  copy-good : deriveCopy limit c l r ≡ ok s → Spread (r .nature) (columnsOf (l .fields))
+  copy-good : deriveCopy F c l r ≡ ok s → Spread (r .nature) (columnsOf (l .fields))
       → ((j : ℕ) → Reaches (length ys) j → Admitted c (l .nature) (r .nature) j) → Good s (stepOf side c s xs ys)
   unfolding deriveCopy copyFields
   copy-good e p k =
-      let n = binaryNature limit c (l .fields .dataType) (columnsOf (l .fields)) (l .nature) (r .nature) in
+      let n = binaryNature F c (l .fields .dataType) (columnsOf (l .fields)) (l .nature) (r .nature) in
       let t = then-ok-inv n _ (checked-rest (copyChecks c l r) _ e) in
       subst (λ (s : Sheet). Good s (stepOf side c s xs ys)) (ok-same (checked-rest (lastChecks l r) (ok (copySheet l r (t .value))) (t .after)))
       (good-step side c l r (copySheet l r (t .value)) xs ys (columnsOf (l .fields)) g h left-columns left-one
-      (binary-derived side c (l .fields .dataType) (columnsOf (l .fields)) limit (l .nature) (r .nature) left-spread p (t .is))
+      (binary-derived side c (l .fields .dataType) (columnsOf (l .fields)) F (l .nature) (r .nature) left-spread p (t .is))
       reach-left reach-right (λ j i. k j (reach-right j i)))
 
-  unary-good : deriveUnary limit c l ≡ ok s → ((o : Option (Span ℤ)) → Asks c o) → ((a b : ℤ) → exact side c a a ≡ exact side c a b)
+  unary-good : deriveUnary F c l ≡ ok s → ((o : Option (Span ℤ)) → Asks c o) → ((a b : ℤ) → exact side c a a ≡ exact side c a b)
       → ((j : ℕ) → Admitted c (l .nature) (r .nature) j) → Good s (stepOf side c s xs ys)
   unfolding deriveUnary
   unary-good e asks left k =
-      let t = then-ok-inv (unaryNature limit c (l .fields .dataType) (columnsOf (l .fields)) (l .nature)) _ (checked-rest (unaryChecks (l .fields)) _ e) in
+      let t = then-ok-inv (unaryNature (F .categoryLimit) c (l .fields .dataType) (columnsOf (l .fields)) (l .nature)) _ (checked-rest (unaryChecks (l .fields)) _ e) in
       subst (λ (s : Sheet). Good s (stepOf side c s xs ys)) (ok-same (t .after))
       (good-step side c l r (unarySheet l (t .value)) xs ys (columnsOf (l .fields)) g h left-columns left-one
-      (unary-derived side c (l .fields .dataType) (columnsOf (l .fields)) limit (r .nature) asks left (l .nature) left-spread (t .is))
+      (unary-derived side c (l .fields .dataType) (columnsOf (l .fields)) (F .categoryLimit) (r .nature) asks left (l .nature) left-spread (t .is))
       reach-left reach-right (λ j i. k j))
 
 -- ---- 10: the side that the row takes
 
-pool-good : (side : Side) (limit : ℕ) (l r s : Sheet) (xs ys : Results) → Good l xs → Good r ys → ColumnsMatch l r
-    → derivePool limit C.Pool l r ≡ ok s → Good s (stepOf side C.Pool s xs ys)
+pool-good : (side : Side) (F : Form) (l r s : Sheet) (xs ys : Results) → Good l xs → Good r ys → ColumnsMatch l r
+    → derivePool F C.Pool l r ≡ ok s → Good s (stepOf side C.Pool s xs ys)
 unfolding derivePool poolFields wide
-pool-good side limit l r s xs ys g h w e =
+pool-good side F l r s xs ys g h w e =
     let n = widest (l .fields) (r .fields) in
     let t = then-ok-inv (poolNature C.Pool (l .fields .dataType) n (l .nature) (r .nature)) _ (checked-rest (poolChecks l r) _ e) in
     let rows = then-ok-inv (rowsSum (l .fields .rows) (r .fields .rows)) _ (t .after) in
-    let k = then-ok-inv (keptTo limit (t .value)) _ (rows .after) in
+    let k = then-ok-inv (kept F (t .value)) _ (rows .after) in
     subst (λ (s : Sheet). Good s (stepOf side C.Pool s xs ys)) (ok-same (k .after))
-    (wide-good side limit C.Pool l r s xs ys g h w (poolSheet (rows .value) l r (k .value)) refl
+    (wide-good side F C.Pool l r s xs ys g h w (poolSheet (rows .value) l r (k .value)) refl
     (λ a b.
-    subst (λ (m : Nature). Derived side C.Pool n (l .nature) (r .nature) m) (kept-ok limit (t .value) (k .is))
+    subst (λ (m : Nature). Derived side C.Pool n (l .nature) (r .nature) m) (kept-ok F (t .value) (k .is))
     (pool-derived side (l .fields .dataType) n (l .nature) (r .nature) a b (t .is)))
     (λ j i. tt))
 
 -- ---- every component
 
 -- the checks of a component's own, passed
-copy-passed : (limit : ℕ) (c : Component) (l r s : Sheet) → deriveCopy limit c l r ≡ ok s → checked (boundChecks c l r) (ok s) ≡ ok s
+copy-passed : (F : Form) (c : Component) (l r s : Sheet) → deriveCopy F c l r ≡ ok s → checked (boundChecks c l r) (ok s) ≡ ok s
 unfolding deriveCopy
-copy-passed limit c l r s e = bounds-passed c l r _ e
+copy-passed F c l r s e = bounds-passed c l r _ e
 
 -- demand 3's premise on the divisor, at any column that the divisor's node reaches
 divisor-off : (r : Sheet) (ys : Results) → Good r ys → ((j : ℕ) → j < columnsOf (r .fields) → OffZero (r .nature) j)
@@ -162,25 +163,25 @@ divisor-off r ys h u j w =
     w
 
 -- every column of the step has an exact result, and it keeps to what the derived sheet states
-pub step-good : (side : Side) (limit : ℕ) (c : Component) (l r s : Sheet) (xs ys : Results) → derive limit c l r ≡ ok s
+pub step-good : (side : Side) (F : Form) (c : Component) (l r s : Sheet) (xs ys : Results) → derive F c l r ≡ ok s
     → Good l xs → Good r ys → ColumnsMatch l r → Suits (N.Is c) l r → Good s (stepOf side c s xs ys)
 unfolding derive exact
-step-good side limit C.Abs l r s xs ys e g h w u = unary-good side limit C.Abs l r s xs ys g h w e (λ o. tt) (λ a b. refl) (λ j. tt)
-step-good side limit C.Add l r s xs ys e g h w u = pair-good side limit C.Add l r s xs ys g h w e (λ j i. tt)
-step-good side limit C.Subtract l r s xs ys e g h w u = pair-good side limit C.Subtract l r s xs ys g h w e (λ j i. u)
-step-good side limit C.Multiply l r s xs ys e g h w u = pair-good side limit C.Multiply l r s xs ys g h w e (λ j i. tt)
-step-good side limit C.Divide l r s xs ys e g h w u = pair-good side limit C.Divide l r s xs ys g h w e (divisor-off r ys h u)
-step-good side limit C.Modulo l r s xs ys e g h w u =
-    let p = copy-passed limit C.Modulo l r s e in
-    copy-good side limit C.Modulo l r s xs ys g h w e
+step-good side F C.Abs l r s xs ys e g h w u = unary-good side F C.Abs l r s xs ys g h w e (λ o. tt) (λ a b. refl) (λ j. tt)
+step-good side F C.Add l r s xs ys e g h w u = pair-good side F C.Add l r s xs ys g h w e (λ j i. tt)
+step-good side F C.Subtract l r s xs ys e g h w u = pair-good side F C.Subtract l r s xs ys g h w e (λ j i. u)
+step-good side F C.Multiply l r s xs ys e g h w u = pair-good side F C.Multiply l r s xs ys g h w e (λ j i. tt)
+step-good side F C.Divide l r s xs ys e g h w u = pair-good side F C.Divide l r s xs ys g h w e (divisor-off r ys h u)
+step-good side F C.Modulo l r s xs ys e g h w u =
+    let p = copy-passed F C.Modulo l r s e in
+    copy-good side F C.Modulo l r s xs ys g h w e
     (modulo-spread l r (length ys) (h .fits) (columnsOf (l .fields)) p)
     (λ j i. modulo-says l r (length ys) (h .fits) j i p)
-step-good side limit C.Log l r s xs ys e g h w u =
-    absurd (log-never l r (length ys) (h .fits) (length xs) (g .fits) (copy-passed limit C.Log l r s e))
-step-good side limit C.Power l r s xs ys e g h w u =
-    let p = copy-passed limit C.Power l r s e in
-    copy-good side limit C.Power l r s xs ys g h w e
+step-good side F C.Log l r s xs ys e g h w u =
+    absurd (log-never l r (length ys) (h .fits) (length xs) (g .fits) (copy-passed F C.Log l r s e))
+step-good side F C.Power l r s xs ys e g h w u =
+    let p = copy-passed F C.Power l r s e in
+    copy-good side F C.Power l r s xs ys g h w e
     (power-spread l r (length ys) (h .fits) (u .0) (u .1) (columnsOf (l .fields)) p)
     (λ j i. power-says l r (length ys) (h .fits) (u .0) (u .1) j i p)
-step-good side limit C.Negative l r s xs ys e g h w u = unary-good side limit C.Negative l r s xs ys g h w e (λ o. tt) (λ a b. refl) (λ j. tt)
-step-good side limit C.Pool l r s xs ys e g h w u = pool-good side limit l r s xs ys g h w e
+step-good side F C.Negative l r s xs ys e g h w u = unary-good side F C.Negative l r s xs ys g h w e (λ o. tt) (λ a b. refl) (λ j. tt)
+step-good side F C.Pool l r s xs ys e g h w u = pool-good side F l r s xs ys g h w e

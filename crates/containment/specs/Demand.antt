@@ -11,7 +11,7 @@ use lib.Dec.{ltb}
 use lib.Signed.{_≤ℤ_, _<ℤ_}
 use Rattle.numbers.specs.Kind.{Span}
 use Rattle.base.specs.Form.{Form, intType}
-use Rattle.base.specs.Sheet.{Sheet, Nature, absent, wholeRange, floatRange, wholeLists, boolLists, floatLists}
+use Rattle.base.specs.Sheet.{Sheet, Nature, absent, wholeRange, floatRange, wholeLists, boolLists, floatLists, textLists}
 use Rattle.base.specs.Decode.{decode}
 use Rattle.base.specs.Components.{componentOf}
 use Rattle.base.specs.declared.Component.the-variants as C
@@ -45,8 +45,8 @@ abbrev pub InList : {X : Type 0} → Option (List X) → X → Type 0
 InList none v = Unit {0}
 InList (some l) v = List·Memᴰ v l
 
--- v keeps to what a nature states for column j. "an absent nature states nothing"; no whole number keeps to float or bool natures, which none of these
--- plans has
+-- v keeps to what a nature states for column j. "an absent nature states nothing"; no whole number keeps to float, bool or text natures, which none of
+-- these plans has
 abbrev pub Keeps : Nature → ℕ → ℤ → Type 0
 Keeps absent j v = Unit {0}
 Keeps (wholeRange rs) j v = InSpan (entryFor rs j) v
@@ -54,6 +54,7 @@ Keeps (floatRange rs) j v = ⊥
 Keeps (wholeLists ls) j v = InList (entryFor ls j) v
 Keeps (boolLists ls) j v = ⊥
 Keeps (floatLists ls) j v = ⊥
+Keeps (textLists ls) j v = ⊥
 
 -- ---- the premises, in the demand's order and words
 
@@ -73,6 +74,7 @@ WholeNature (floatRange rs) columns = ⊥
 WholeNature (wholeLists ls) columns = OneOrPerColumn ls columns
 WholeNature (boolLists ls) columns = ⊥
 WholeNature (floatLists ls) columns = ⊥
+WholeNature (textLists ls) columns = ⊥
 
 -- "the operands of each step have equal column counts or one of them a single column"
 abbrev pub ColumnsMatch : Sheet → Sheet → Type 0
@@ -85,6 +87,7 @@ IsRange (floatRange rs) = Unit {0}
 IsRange (wholeLists ls) = ⊥
 IsRange (boolLists ls) = ⊥
 IsRange (floatLists ls) = ⊥
+IsRange (textLists ls) = ⊥
 
 -- "a lower above 0, an upper below 0"
 abbrev pub SpanOffZero : Option (Span ℤ) → Type 0
@@ -103,6 +106,7 @@ OffZero (floatRange rs) j = ⊥
 OffZero (wholeLists ls) j = ListOffZero (entryFor ls j)
 OffZero (boolLists ls) j = ⊥
 OffZero (floatLists ls) j = ⊥
+OffZero (textLists ls) j = ⊥
 
 -- what a step's component asks of its operands' sheets: "let no Subtract join two ranges, let each Power have Int operands, and let each Divide's divisor
 -- sheet state a lower above 0, an upper below 0 or categories without 0 in every column"

@@ -6,7 +6,7 @@ use lib.IntN.{ℤ}
 use lib.ListN.{length, getD}
 use Rattle.numbers.specs.Kind.{Span}
 use Rattle.utilities.specs.Lists.{listFrom}
-use Rattle.base.specs.Sheet.{Sheet, Nature, absent, wholeRange, floatRange, wholeLists, boolLists, floatLists}
+use Rattle.base.specs.Sheet.{Sheet, Nature, absent, wholeRange, floatRange, wholeLists, boolLists, floatLists, textLists}
 use Rattle.base.specs.declared.Component.{Component}
 use Rattle.base.specs.declared.Component.the-variants as C
 use Rattle.base.specs.declared.Numbered.the-variants as N
@@ -23,6 +23,7 @@ Fitting (floatRange rs) columns = ⊥
 Fitting (wholeLists ls) columns = OneOrPerColumn ls columns
 Fitting (boolLists ls) columns = ⊥
 Fitting (floatLists ls) columns = ⊥
+Fitting (textLists ls) columns = ⊥
 
 -- .. but for the count of a range's entries, which 18 tests
 abbrev pub Spread : Nature → ℕ → Type 0
@@ -32,6 +33,7 @@ Spread (floatRange rs) columns = ⊥
 Spread (wholeLists ls) columns = OneOrPerColumn ls columns
 Spread (boolLists ls) columns = ⊥
 Spread (floatLists ls) columns = ⊥
+Spread (textLists ls) columns = ⊥
 
 -- an entry of a whole range
 abbrev pub OfRange : (Option (Span ℤ) → Type 0) → Nature → ℕ → Type 0
@@ -41,6 +43,7 @@ OfRange P (floatRange rs) j = ⊥
 OfRange P (wholeLists ls) j = ⊥
 OfRange P (boolLists ls) j = ⊥
 OfRange P (floatLists ls) j = ⊥
+OfRange P (textLists ls) j = ⊥
 
 -- what a component asks of its operands' natures at column j: demand 3's premise, or what 15 and 16 have tested
 abbrev pub Admitted : Component → Nature → Nature → ℕ → Type 0

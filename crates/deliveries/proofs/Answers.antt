@@ -34,7 +34,7 @@ pub room :
     → Room F p first second source buf
 room {F} {source = source} z e b =
     let g = passed F source e .groupsWithin in
-    record { sized = e; first-held = z .first-held; second-held = z .second-held; entries-fit = z .entries; values-fit = z .values; sheet-fits = omega arith }
+    record { sized = e; first-held = z .first-held; second-held = z .second-held; entries-fit = z .entries; values-fit = z .values; text-fits = z .text; sheet-fits = omega arith }
 
 -- and the sheet that is written ends within it
 pub bounded :

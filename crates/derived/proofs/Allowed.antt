@@ -10,14 +10,14 @@ use lib.ListN.{getD}
 use borrow.Author.Tests.{eq-eqb, eqb-true, ltb-true, leb-true}
 use Rattle.bytes.specs.Le.{leAt}
 use Rattle.bytes.proofs.Reread.{AllBytes}
-use Rattle.base.specs.Form.{Form, groupCount, listCount, categoryCount, byteAt, natureAt, typeAt, lastType, wholeRangeNature, floatRangeNature, wholeListsNature, boolListsNature, floatListsNature, boolKey, lastKey, keyAt}
-use Rattle.base.specs.Sheet.{wholeRange, floatRange, wholeLists, boolLists, floatLists, absent}
-use Rattle.base.specs.Decode.{asWhole, asFloat, asBits, prepended, groupAt, listNumber, categoryAt, listAt, entries, lists, natureIn, fieldsIn, groupsIn, decode}
-use Rattle.base.specs.Checks.{fieldsFail, keyPermitted, groupsPermitted, numberPermitted, valuePermitted, listsPermitted, naturePermitted}
+use Rattle.base.specs.Form.{Form, groupCount, listCount, categoryCount, byteAt, natureAt, typeAt, lastType, wholeRangeNature, floatRangeNature, wholeListsNature, boolListsNature, floatListsNature, textListsNature, boolKey, lastKey, keyAt}
+use Rattle.base.specs.Sheet.{wholeRange, floatRange, wholeLists, boolLists, floatLists, textLists, absent}
+use Rattle.base.specs.Decode.{asWhole, asFloat, asBits, prepended, groupAt, listNumber, categoryAt, listAt, entries, lists, textIn, natureIn, fieldsIn, groupsIn, decode}
+use Rattle.base.specs.Checks.{fieldsFail, keyPermitted, groupsPermitted, listsPermitted, naturePermitted}
 use Rattle.base.proofs.Flags.{and-both}
 use Rattle.base.proofs.Groups.{whole-bits-copied}
 use Rattle.base.proofs.Holding.{holds-within}
-use Rattle.base.proofs.Permitted.{Permitted, permitted, columns-within}
+use Rattle.base.proofs.Permitted.{Permitted, permitted, columns-within, lists-tested, bool-small}
 use Rattle.round_trip.specs.WellFormed.{Each, Present}
 use Rattle.round_trip.proofs.Heads.{clean}
 use Rattle.derived.specs.Held.{KeyAllowed, ValuesAllowed, Allowed}
@@ -53,37 +53,31 @@ module _ (F : Form) (s : List ℕ) where
       go true p = (h i (omega arith) (omega arith), p)
       go false p = p
 
-  value-small : byteAt F natureAt s ≡ boolListsNature → (i : ℕ) → valuePermitted F s i ≡ true → categoryAt F s (groupCount F s) (categoryCount F s) i ≤ 1
-  value-small b i e = leb-true (categoryAt F s (groupCount F s) (categoryCount F s) i) 1 (rw b at e)
-
-  bools-tested : naturePermitted F s ≡ true → byteAt F natureAt s ≡ boolListsNature → listsPermitted F s ≡ true
-  unfolding naturePermitted
-  bools-tested e b = rw b at e
-
   bools-allowed : listsPermitted F s ≡ true → byteAt F natureAt s ≡ boolListsNature → Each (Each (λ v. v ≤ 1)) (lists F s asBits)
-  unfolding listsPermitted lists
+  unfolding lists
   bools-allowed e b =
       let g = groupCount F s in
       let t = categoryCount F s in
-      let test : ℕ → Bool = λ i. numberPermitted F s i && valuePermitted F s i in
       each-below (Each (λ v. v ≤ 1)) (λ j. listAt F s asBits g t j t 0) (listCount F s) 0
-      (λ j low high. list-allowed g t j t 0 (λ i low high. value-small b i (and-both (numberPermitted F s i) (valuePermitted F s i) (holds-within test t 0 i e low high) .1)))
+      (λ j low high. list-allowed g t j t 0 (λ i low high. bool-small F s e b i (omega arith)))
 
   nature-allowed : naturePermitted F s ≡ true → ValuesAllowed (natureIn F s)
   unfolding natureIn
   nature-allowed e =
       let k = byteAt F natureAt s in
-      go (eqb k wholeRangeNature) (eqb k floatRangeNature) (eqb k wholeListsNature) (eqb k boolListsNature) (eqb k floatListsNature) (λ h. let b = eqb-true k boolListsNature h in bools-allowed (bools-tested e b) b)
+      go (eqb k wholeRangeNature) (eqb k floatRangeNature) (eqb k wholeListsNature) (eqb k boolListsNature) (eqb k floatListsNature) (eqb k textListsNature)
+      (λ h. let b = eqb-true k boolListsNature h in bools-allowed (lists-tested F s e (rw b) (rw b)) b)
     where
-      go : (a b c d e : Bool) → (d ≡ true → Each (Each (λ v. v ≤ 1)) (lists F s asBits))
+      go : (a b c d e x : Bool) → (d ≡ true → Each (Each (λ v. v ≤ 1)) (lists F s asBits))
           → ValuesAllowed (cond a (wholeRange (entries F s asWhole)) (cond b (floatRange (entries F s asFloat)) (cond c (wholeLists (lists F s asWhole))
-          (cond d (boolLists (lists F s asBits)) (cond e (floatLists (lists F s asBits)) absent)))))
-      go true b c d e h = tt
-      go false true c d e h = tt
-      go false false true d e h = tt
-      go false false false true e h = h refl
-      go false false false false true h = tt
-      go false false false false false h = tt
+          (cond d (boolLists (lists F s asBits)) (cond e (floatLists (lists F s asBits)) (cond x (textLists (lists F s (textIn F s))) absent))))))
+      go true b c d e x h = tt
+      go false true c d e x h = tt
+      go false false true d e x h = tt
+      go false false false true e x h = h refl
+      go false false false false true x h = tt
+      go false false false false false true h = tt
+      go false false false false false false h = tt
 
   pub decoded-allowed : AllBytes s → fieldsFail F s ≡ false → Allowed (decode F s)
   unfolding decode fieldsIn

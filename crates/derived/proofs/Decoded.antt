@@ -4,23 +4,23 @@
 -- Assumes nothing.
 use mathlib.Core.Path.{_≡_, refl, ap}
 use mathlib.Core.Bool.{Bool, true, false, cond}
-use mathlib.Core.List.{List}
+use mathlib.Core.List.{List, [], _∷_}
 use mathlib.Core.Option.{Option, none, some, Option·getD}
 use Prim.Native.Nat.{ℕ, zero, suc, _+_, _≤_}
 use native.Mathlib.Omega.{arith}
 use lib.Dec.{eqb}
 use lib.Ieee.{binary64}
 use lib.Ieee.Bits.{ofBits-fits}
-use lib.ListN.{length, getD}
+use lib.ListN.{length, getD, drop}
 use mir.Syntax.{w64}
 use mir.Facts.{sfits-toZ}
 use Rattle.bytes.specs.Le.{leAt}
 use Rattle.bytes.proofs.Reread.{AllBytes, leAt-below}
 use Rattle.numbers.specs.Result.{ok}
 use Rattle.utilities.proofs.Built.{listFrom-length}
-use Rattle.base.specs.Form.{Form, Laid, natureAt, byteAt, groupCount, listCount, categoryCount, wholeRangeNature, floatRangeNature, wholeListsNature, boolListsNature, floatListsNature}
-use Rattle.base.specs.Sheet.{Nature, absent, wholeRange, floatRange, wholeLists, boolLists, floatLists}
-use Rattle.base.specs.Decode.{asWhole, asFloat, asBits, optionAt, prepended, groupAt, spanAt, listNumber, categoryAt, listAt, entries, lists, natureIn, fieldsIn, groupsIn, decode}
+use Rattle.base.specs.Form.{Form, Laid, natureAt, byteAt, groupCount, listCount, categoryCount, wholeRangeNature, floatRangeNature, wholeListsNature, boolListsNature, floatListsNature, textListsNature, areaAt}
+use Rattle.base.specs.Sheet.{Nature, absent, wholeRange, floatRange, wholeLists, boolLists, floatLists, textLists}
+use Rattle.base.specs.Decode.{asWhole, asFloat, asBits, startIn, lengthIn, optionAt, prepended, groupAt, spanAt, listNumber, categoryAt, listAt, entries, lists, textIn, natureIn, fieldsIn, groupsIn, decode}
 use Rattle.base.specs.Encode.{entryCount}
 use Rattle.base.specs.Checks.{sheetChecks, read}
 use Rattle.base.specs.Code.{codeOf}
@@ -28,11 +28,15 @@ use Rattle.base.proofs.Groups.{groups-length}
 use Rattle.base.proofs.Passed.{Passed, passed, passed-all}
 use Rattle.base.proofs.Permitted.{permitted, columns-within}
 use Rattle.lending.specs.Code.{Read}
-use Rattle.round_trip.specs.WellFormed.{Each, Present, Whole, Double, Bits, FieldsFit, GroupFits, SpanFits, CategoriesFit, NatureFits}
+use Rattle.round_trip.specs.WellFormed.{Each, Present, Whole, Double, Bits, Byte, FieldsFit, GroupFits, SpanFits, CategoriesFit, NatureFits}
 use Rattle.derived.specs.Held.{Held}
 use Rattle.derived.proofs.Gives.{Gives, gives-more, gives-checked}
-use Rattle.derived.proofs.Each.{each-from}
+use Rattle.derived.proofs.Each.{each-from, each-take, each-drop}
 use Rattle.derived.proofs.Allowed.{decoded-allowed}
+
+bytes-each : (s : List ℕ) → AllBytes s → Each Byte s
+bytes-each [] h = tt
+bytes-each (x ∷ s) h = (h 0, bytes-each s (λ i. h (suc i)))
 
 module _ {F : Form} (laid : Laid F) (s : List ℕ) (small : AllBytes s) where
   read-whole : (at : ℕ) → Whole (asWhole (leAt 8 at s))
@@ -43,6 +47,14 @@ module _ {F : Form} (laid : Laid F) (s : List ℕ) (small : AllBytes s) where
 
   read-bits : (at : ℕ) → Bits (asBits (leAt 8 at s))
   read-bits at = leAt-below s small 8 at
+
+  -- a text is a part of the sheet
+  read-text : (at : ℕ) → Each Byte (textIn F s (leAt 8 at s))
+  unfolding textIn
+  read-text at =
+      let v = leAt 8 at s in
+      let from = areaAt F (groupCount F s) (categoryCount F s) + startIn v in
+      each-take Byte (lengthIn v) (drop from s) (each-drop Byte from s (bytes-each s small))
 
   module _ {X : Type 0} (P : X → Type 0) (read : ℕ → X) (fit : (at : ℕ) → P (read (leAt 8 at s))) where
     option-fits : (mark at : ℕ) → Present P (optionAt read mark at s)
@@ -93,17 +105,18 @@ module _ {F : Form} (laid : Laid F) (s : List ℕ) (small : AllBytes s) where
   unfolding natureIn
   nature-fine h =
       let k = byteAt F natureAt s in
-      go (eqb k wholeRangeNature) (eqb k floatRangeNature) (eqb k wholeListsNature) (eqb k boolListsNature) (eqb k floatListsNature)
+      go (eqb k wholeRangeNature) (eqb k floatRangeNature) (eqb k wholeListsNature) (eqb k boolListsNature) (eqb k floatListsNature) (eqb k textListsNature)
     where
-      go : (a b c d e : Bool)
+      go : (a b c d e x : Bool)
           → Fine (cond a (wholeRange (entries F s asWhole)) (cond b (floatRange (entries F s asFloat)) (cond c (wholeLists (lists F s asWhole))
-          (cond d (boolLists (lists F s asBits)) (cond e (floatLists (lists F s asBits)) absent)))))
-      go true b c d e = let n = entries-length Whole asWhole read-whole in (omega arith, entries-fit Whole asWhole read-whole)
-      go false true c d e = let n = entries-length Double asFloat read-double in (omega arith, entries-fit Double asFloat read-double)
-      go false false true d e = let n = lists-length Whole asWhole read-whole in (omega arith, lists-fit Whole asWhole read-whole h)
-      go false false false true e = let n = lists-length Bits asBits read-bits in (omega arith, lists-fit Bits asBits read-bits h)
-      go false false false false true = let n = lists-length Bits asBits read-bits in (omega arith, lists-fit Bits asBits read-bits h)
-      go false false false false false = (omega arith, tt)
+          (cond d (boolLists (lists F s asBits)) (cond e (floatLists (lists F s asBits)) (cond x (textLists (lists F s (textIn F s))) absent))))))
+      go true b c d e x = let n = entries-length Whole asWhole read-whole in (omega arith, entries-fit Whole asWhole read-whole)
+      go false true c d e x = let n = entries-length Double asFloat read-double in (omega arith, entries-fit Double asFloat read-double)
+      go false false true d e x = let n = lists-length Whole asWhole read-whole in (omega arith, lists-fit Whole asWhole read-whole h)
+      go false false false true e x = let n = lists-length Bits asBits read-bits in (omega arith, lists-fit Bits asBits read-bits h)
+      go false false false false true x = let n = lists-length Bits asBits read-bits in (omega arith, lists-fit Bits asBits read-bits h)
+      go false false false false false true = let n = lists-length (Each Byte) (textIn F s) read-text in (omega arith, lists-fit (Each Byte) (textIn F s) read-text h)
+      go false false false false false false = (omega arith, tt)
 
   fields-fit : FieldsFit (fieldsIn F s)
   unfolding fieldsIn

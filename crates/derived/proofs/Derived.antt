@@ -1,5 +1,5 @@
--- The sheet that a component derives keeps to the form of its operands, for any stored form that is laid out properly: to the limits of its sizes and
--- columns, and its numbers fit their places.
+-- The sheet that a component derives keeps to the form of its operands, for any stored form that is laid out properly: to the limits of its sizes, its
+-- text and its columns, and its numbers fit their places.
 --     derived-sound, numbered-sound    of operands that are `Held`
 --     sound-formed, sound-length       so that its bytes read back, and are no more than the longest sheet's
 -- Assumes nothing.
@@ -30,7 +30,7 @@ use Rattle.shape.specs.Shape.{columnsOf, columnsAbsent, widest, groupsOf, great
 use Rattle.orders.specs.Orders.{unaryChecks, pairChecks, copyChecks, lastChecks, poolChecks}
 use Rattle.shape.specs.Fields.{addsNullity, pairFields, copyFields, poolFields, pairSheet, copySheet, poolSheet, unarySheet, numbered}
 use Rattle.orders.proofs.Orders.{copy-numbered}
-use Rattle.category_lists.specs.Categories.{keptTo}
+use Rattle.category_lists.specs.Categories.{kept}
 use Rattle.calls.specs.Natures.{binaryNature, poolNature, unaryNature}
 use Rattle.calls.specs.Derive.{deriveUnary, derivePair, deriveCopy, derivePool, deriveBy, derive}
 use Rattle.round_trip.specs.WellFormed.{Each, Present, Whole, Bits, FieldsFit, GroupFits, WellFormed}
@@ -39,7 +39,7 @@ use Rattle.round_trip.proofs.Natures.{arrays-length}
 use Rattle.derived.specs.Held.{KeyAllowed, Held, Sound}
 use Rattle.derived.proofs.Gives.{Gives, all-counted, gives-then, gives-passed, gives-checked}
 use Rattle.derived.proofs.Fitted.{fitting-fits}
-use Rattle.derived.proofs.Made.{Made, Kept, kept-to, pool-made, binary-kept, unary-kept}
+use Rattle.derived.proofs.Made.{Made, Kept, made-kept, pool-made, binary-kept, unary-kept}
 
 -- ---- fields
 
@@ -148,7 +148,7 @@ module _ {F : Form} (laid : Laid F) where
   held-made s p = record { entries = p .entriesWithin; fits = p .nature; allowed = p .allowed .values }
 
   sheet-sound : (s : Sheet) → columnsOf (s .fields) ≤ F .columnLimit → FieldsFit (s .fields) → s .fields .dataType ≤ lastType
-      → Present (λ n. 0 < n) (s .fields .columns) → Whole (s .node) → GroupsHeld (s .groups) → Kept F (F .categoryLimit) (s .nature) → Sound F s
+      → Present (λ n. 0 < n) (s .fields .columns) → Whole (s .node) → GroupsHeld (s .groups) → Kept F (s .nature) → Sound F s
   sheet-sound s w f t n z g m = record {
     held = record {
       groupsWithin = g .0;
@@ -161,6 +161,7 @@ module _ {F : Form} (laid : Laid F) where
       allowed = record { dataType = t; columns = n; groups = g .2; values = m .made .allowed };
     };
     values = m .values;
+    text = m .text;
   }
 
   -- the greater of two column counts, of which left's is present
@@ -174,18 +175,18 @@ module _ {F : Form} (laid : Laid F) where
         let some-column = columns-some (l .fields .columns) (present .0) (p .allowed .columns) in
         omega arith
 
-  pair-sound : (c : Component) (l r : Sheet) → Held F l → Held F r → Gives (Sound F) (derivePair (F .categoryLimit) c l r)
+  pair-sound : (c : Component) (l r : Sheet) → Held F l → Held F r → Gives (Sound F) (derivePair F c l r)
   unfolding derivePair pairFields
   pair-sound c l r p q =
       gives-passed (Sound F) (pairChecks l r) _ refl
       (λ passing.
-      gives-then (Kept F (F .categoryLimit)) (Sound F) (binaryNature (F .categoryLimit) c (l .fields .dataType) (widest (l .fields) (r .fields)) (l .nature) (r .nature)) _
-      (binary-kept laid (widest (l .fields) (r .fields)) (widest-within l r p q) (F .categoryLimit) c (l .fields .dataType) (l .nature) (r .nature) (held-made l p) (held-made r q))
+      gives-then (Kept F) (Sound F) (binaryNature F c (l .fields .dataType) (widest (l .fields) (r .fields)) (l .nature) (r .nature)) _
+      (binary-kept laid (widest (l .fields) (r .fields)) (widest-within l r p q) c (l .fields .dataType) (l .nature) (r .nature) (held-made l p) (held-made r q))
       (λ k m.
       sheet-sound (pairSheet c l r k) (widest-within l r p q) (pair-fields (addsNullity c (r .nature)) (l .fields) (r .fields) (p .fields) (q .fields))
       (p .allowed .dataType) (widest-some l r p q (passing .1 .1 .1 .1 .1 .1 .1 .0)) (p .node) (groups-held l r p q) m))
 
-  pool-sound : (c : Component) (l r : Sheet) → Held F l → Held F r → Gives (Sound F) (derivePool (F .categoryLimit) c l r)
+  pool-sound : (c : Component) (l r : Sheet) → Held F l → Held F r → Gives (Sound F) (derivePool F c l r)
   unfolding derivePool poolFields
   pool-sound c l r p q =
       gives-passed (Sound F) (poolChecks l r) _ refl
@@ -193,34 +194,34 @@ module _ {F : Form} (laid : Laid F) where
       gives-then (Made F) (Sound F) (poolNature c (l .fields .dataType) (widest (l .fields) (r .fields)) (l .nature) (r .nature)) _
       (pool-made laid (widest (l .fields) (r .fields)) (widest-within l r p q) c (l .fields .dataType) (l .nature) (r .nature) (held-made l p) (held-made r q))
       (λ k m. gives-then (Present Whole) (Sound F) (rowsSum (l .fields .rows) (r .fields .rows)) _ (sum-whole (l .fields .rows) (r .fields .rows))
-      (λ rows w. gives-then (Kept F (F .categoryLimit)) (Sound F) (keptTo (F .categoryLimit) k) _ (kept-to laid (F .categoryLimit) k m)
+      (λ rows w. gives-then (Kept F) (Sound F) (kept F k) _ (made-kept laid k m)
       (λ k′ m′.
       sheet-sound (poolSheet rows l r k′) (widest-within l r p q) (pool-fields rows (l .fields) (r .fields) w (p .fields) (q .fields))
       (p .allowed .dataType) (widest-some l r p q (passing .1 .1 .1 .1 .1 .0)) (p .node) (groups-held l r p q) m′))))
 
-  copy-sound : (c : Component) (l r : Sheet) → Held F l → Held F r → Gives (Sound F) (deriveCopy (F .categoryLimit) c l r)
+  copy-sound : (c : Component) (l r : Sheet) → Held F l → Held F r → Gives (Sound F) (deriveCopy F c l r)
   unfolding deriveCopy copyFields
   copy-sound c l r p q =
       gives-checked (Sound F) (copyChecks c l r) _ (all-counted (copyChecks c l r) (copy-numbered l r c))
-      (gives-then (Kept F (F .categoryLimit)) (Sound F) (binaryNature (F .categoryLimit) c (l .fields .dataType) (columnsOf (l .fields)) (l .nature) (r .nature)) _
-      (binary-kept laid (columnsOf (l .fields)) (p .columnsWithin) (F .categoryLimit) c (l .fields .dataType) (l .nature) (r .nature) (held-made l p) (held-made r q))
+      (gives-then (Kept F) (Sound F) (binaryNature F c (l .fields .dataType) (columnsOf (l .fields)) (l .nature) (r .nature)) _
+      (binary-kept laid (columnsOf (l .fields)) (p .columnsWithin) c (l .fields .dataType) (l .nature) (r .nature) (held-made l p) (held-made r q))
       (λ k m. gives-checked (Sound F) (lastChecks l r) (ok (copySheet l r k)) refl
       (sheet-sound (copySheet l r k) (p .columnsWithin) (copy-fields (l .fields) (r .fields) (p .fields) (q .fields))
       (p .allowed .dataType) (p .allowed .columns) (p .node) (groups-held l r p q) m)))
 
-  unary-sound : (c : Component) (l : Sheet) → Held F l → Gives (Sound F) (deriveUnary (F .categoryLimit) c l)
+  unary-sound : (c : Component) (l : Sheet) → Held F l → Gives (Sound F) (deriveUnary F c l)
   unfolding deriveUnary
   unary-sound c l p =
       gives-checked (Sound F) (unaryChecks (l .fields)) _ refl
-      (gives-then (Kept F (F .categoryLimit)) (Sound F) (unaryNature (F .categoryLimit) c (l .fields .dataType) (columnsOf (l .fields)) (l .nature)) _
-      (unary-kept laid (columnsOf (l .fields)) (p .columnsWithin) (F .categoryLimit) c (l .fields .dataType) (l .nature) (held-made l p))
+      (gives-then (Kept F) (Sound F) (unaryNature (F .categoryLimit) c (l .fields .dataType) (columnsOf (l .fields)) (l .nature)) _
+      (unary-kept laid (columnsOf (l .fields)) (p .columnsWithin) c (l .fields .dataType) (l .nature) (held-made l p))
       (λ k m. sheet-sound (unarySheet l k) (p .columnsWithin) (p .fields) (p .allowed .dataType) (p .allowed .columns) (p .node) (p .groupsWithin, p .groups, p .allowed .groups) m))
 
-  pub derived-sound : (c : Component) (l r : Sheet) → Held F l → Held F r → Gives (Sound F) (derive (F .categoryLimit) c l r)
+  pub derived-sound : (c : Component) (l r : Sheet) → Held F l → Held F r → Gives (Sound F) (derive F c l r)
   unfolding derive
   derived-sound c l r p q = go (familyOf c)
     where
-      go : (f : Family) → Gives (Sound F) (deriveBy (F .categoryLimit) c f l r)
+      go : (f : Family) → Gives (Sound F) (deriveBy F c f l r)
       go Fam.Unary = unary-sound c l p
       go Fam.Pair = pair-sound c l r p q
       go Fam.Copy = copy-sound c l r p q
@@ -243,6 +244,7 @@ module _ {F : Form} (laid : Laid F) where
           allowed = record { dataType = h .allowed .dataType; columns = h .allowed .columns; groups = h .allowed .groups; values = h .allowed .values };
         };
         values = p .values;
+        text = p .text;
       }
 
   pub numbered-sound : (f : Family) (node : ℕ) (s : Sheet) → node < 2 ^ 32 → Sound F s → Sound F (numbered f node s)
@@ -260,10 +262,12 @@ module _ {F : Form} (laid : Laid F) where
       let g = h .groupsWithin in
       let n = h .entriesWithin in
       let t = p .values in
+      let x = p .text in
       record {
         groupsCounted = omega (arith, laid .groupsCounted);
         entriesCounted = omega (arith, laid .listsCounted);
         valuesCounted = omega (arith, laid .categoriesCounted);
+        textCounted = omega (arith, laid .areaCounted);
         fields = h .fields;
         node = h .node;
         groups = h .groups;
@@ -276,6 +280,7 @@ module _ {F : Form} (laid : Laid F) where
       let g = h .groupsWithin in
       let n = h .entriesWithin in
       let t = p .values in
+      let x = p .text in
       let a = go (isRangeNature (natureNumber (s .nature))) n t in
       omega (arith, sheet-length F s, arrays-length F (s .nature))
     where

@@ -1,10 +1,10 @@
--- `Each` of lists that are made, joined and repeated; and how many values a rule gives of a list. Assumes nothing.
+-- `Each` of lists that are made, joined, cut and repeated; and how many values a rule gives of a list. Assumes nothing.
 use mathlib.Core.Path.{_≡_, sym, ap, _∙_}
 use mathlib.Core.Bool.{Bool, true, false, cond}
 use mathlib.Core.List.{List, [], _∷_, _++_, map}
 use Prim.Native.Nat.{ℕ, zero, suc, _+_, _≤_, _<_}
 use native.Mathlib.Omega.{arith}
-use lib.ListN.{length, replicate, length-replicate}
+use lib.ListN.{length, replicate, take, drop, length-replicate}
 use Rattle.numbers.specs.Result.{Result, ok}
 use Rattle.numbers.proofs.Results.{then-ok-inv}
 use Rattle.utilities.specs.Lists.{listFrom, has, noted, firstsFrom, firsts, repeated}
@@ -24,6 +24,16 @@ module _ {X : Type 0} (P : X → Type 0) where
   pub each-append : (xs ys : List X) → Each P xs → Each P ys → Each P (xs ++ ys)
   each-append [] ys p q = q
   each-append (x ∷ xs) ys p q = (p .0, each-append xs ys (p .1) q)
+
+  pub each-take : (n : ℕ) (xs : List X) → Each P xs → Each P (take n xs)
+  each-take zero xs p = tt
+  each-take (suc n) [] p = tt
+  each-take (suc n) (x ∷ xs) p = (p .0, each-take n xs (p .1))
+
+  pub each-drop : (n : ℕ) (xs : List X) → Each P xs → Each P (drop n xs)
+  each-drop zero xs p = p
+  each-drop (suc n) [] p = tt
+  each-drop (suc n) (x ∷ xs) p = each-drop n xs (p .1)
 
   each-replicate : (n : ℕ) (x : X) → P x → Each P (replicate n x)
   each-replicate zero x p = tt

@@ -4,7 +4,7 @@
 --     encoded-read         both
 -- Assumes nothing.
 use mathlib.Core.Path.{_≡_, refl, sym, ap, subst, _∙_}
-use mathlib.Core.Bool.{Bool, true, false, not, _||_, _&&_}
+use mathlib.Core.Bool.{Bool, true, false, not, _||_, _&&_, or-true}
 use mathlib.Core.List.{List, [], _∷_, _++_, append-nil}
 use mathlib.Core.Option.{Option, none, some, Option·getD}
 use Prim.Native.Nat.{ℕ, zero, suc, _+_, _-_, _*_, _^_, _≤_, _<_}
@@ -17,28 +17,26 @@ use borrow.Author.Tests.{eq-eqb, eqb-true, lt-ltb, le-ltb, le-leb, leb-true}
 use Rattle.bytes.specs.Le.{leAt, leBytes}
 use Rattle.bytes.proofs.Widths.{length-leBytes}
 use Rattle.numbers.specs.Kind.{Span}
-use Rattle.base.specs.Form.{Form, Laid, groupCount, listCount, categoryCount, place, byteAt, natureAt, typeAt, nullityAt, releasableAt, notEmptyAt, orderedAt, rowsMarkAt, columnsMarkAt, datasetMarkAt, dimensionalityMarkAt, sampleMarkAt, reservedAt, reservedCount, fieldsEnd, rowsAt, columnsAt, datasetAt, dimensionalityAt, sampleAt, lastNature, lastType, boolKey, lastKey, keyAt, entriesAt, lowerAt, upperAt, numberAt, valueAt, lengthCalledFor}
-use Rattle.base.specs.Sheet.{Group, Nature, absent, wholeRange, floatRange, wholeLists, boolLists, floatLists, Fields, Sheet}
+use Rattle.base.specs.Form.{Form, Laid, groupCount, listCount, categoryCount, place, byteAt, natureAt, typeAt, nullityAt, releasableAt, notEmptyAt, orderedAt, rowsMarkAt, columnsMarkAt, datasetMarkAt, dimensionalityMarkAt, sampleMarkAt, reservedAt, laterAt, laterCount, fieldsEnd, rowsAt, columnsAt, datasetAt, dimensionalityAt, sampleAt, lastNature, lastType, boolKey, lastKey, keyAt, entriesAt, lowerAt, upperAt, numberAt, valueAt, areaSize, lengthCalledFor}
+use Rattle.base.specs.Sheet.{Group, Nature, absent, wholeRange, floatRange, wholeLists, boolLists, floatLists, textLists, Fields, Sheet}
 use Rattle.base.specs.Decode.{asBits, listNumber}
-use Rattle.base.specs.Encode.{flag, mark, bitsOf, wholeBits, floatBits, joined, endBytes, natureNumber, entryCount, valueCount, total, rangeBytes, listBytes, numberBytes, numbersFrom, listsBytes, natureBytes, encode}
-use Rattle.base.specs.Checks.{holdsFrom, markPermitted, sizesFail, bytesPermitted, valuesPermitted, keyPermitted, groupsPermitted, rangePermitted, valuePermitted, listsPermitted, naturePermitted, fieldsFail}
+use Rattle.base.specs.Encode.{flag, mark, bitsOf, wholeBits, floatBits, joined, endBytes, natureNumber, entryCount, valueCount, total, areaOf, spotsFrom, rangeBytes, listBytes, numberBytes, numbersFrom, listsBytes, natureBytes, encode}
+use Rattle.base.specs.Checks.{holdsFrom, markPermitted, sizesFail, bytesPermitted, valuesPermitted, keyPermitted, groupsPermitted, rangePermitted, valuePermitted, listsPermitted, areaPermitted, naturePermitted, fieldsFail}
 use Rattle.lending.specs.Code.{Read}
 use Rattle.round_trip.specs.WellFormed.{Each, Present, Whole, Bits, GroupFits, WellFormed}
 use Rattle.round_trip.proofs.Standing.{Standing, standing-left, standing-right, standing-at, byte-back, number-back}
 use Rattle.round_trip.proofs.Values.{whole}
 use Rattle.round_trip.proofs.Arrays.{next-place}
 use Rattle.round_trip.proofs.Table.{keyBytes, key-sized, part-at, sheet-length}
-use Rattle.round_trip.proofs.Fields.{group-count-back, list-count-back, category-count-back, nature-byte-back}
+use Rattle.round_trip.proofs.Fields.{group-count-back, list-count-back, category-count-back, area-size-back, nature-byte-back}
 use Rattle.round_trip.proofs.Spans.{lowerBytes, upperBytes, end-sized, lowers-length}
 use Rattle.round_trip.proofs.Lists.{numberBytes-length, listBytes-length, numbers-length}
+use Rattle.round_trip.proofs.Texts.{spots-length, spots-total, spots-fit}
 use Rattle.round_trip.proofs.Natures.{sheetOf}
 use Rattle.round_trip.proofs.Back.{called-for}
 use Rattle.derived.specs.Held.{KeyAllowed, ValuesAllowed, Sound}
 use Rattle.derived.proofs.Derived.{sound-formed}
-
-or-true : (b : Bool) → (b || true) ≡ true
-or-true true = refl
-or-true false = refl
+use Rattle.derived.proofs.Ended.{texts-run}
 
 -- ---- bytes and marks
 
@@ -49,6 +47,7 @@ nature-known (floatRange rs) = refl
 nature-known (wholeLists ls) = refl
 nature-known (boolLists ls) = refl
 nature-known (floatLists ls) = refl
+nature-known (textLists ls) = refl
 
 module _ {t : List ℕ} where
   flag-holds : (b : Bool) {at : ℕ} → Standing t at (flag b ∷ []) → leb (getD t at 0) 1 ≡ true
@@ -216,47 +215,78 @@ module _ {F : Form} (laid : Laid F) (s : Sheet) (fit : WellFormed F s) (rest : L
   written = encode F s ++ rest
 
   -- where the arrays stand
-  arrays-at : {vs : List ℕ} → natureBytes F (s .nature) ≡ vs → Standing written (entriesAt F (groupCount F written)) vs
-  arrays-at e =
-      rw e at (part-at F s rest 26 (entriesAt F (groupCount F written)) (omega (arith, laid .sizes, laid .arrays, group-count-back F laid s fit rest)))
+  arrays-at : Standing written (entriesAt F (groupCount F written)) (natureBytes F (s .nature))
+  arrays-at = part-at F s rest 28 (entriesAt F (groupCount F written)) (omega (arith, laid .sizes, laid .arrays, group-count-back F laid s fit rest))
 
   module _ {X : Type 0} (bits : X → ℕ) where
     -- a sheet whose arrays are those of a range, and of lists
-    spans-hold : (rs : List (Span X)) → entryCount (s .nature) ≡ length rs → valueCount (s .nature) ≡ 0 → natureBytes F (s .nature) ≡ rangeBytes bits rs
+    spans-hold : (rs : List (Span X)) → entryCount (s .nature) ≡ length rs → valueCount (s .nature) ≡ 0 → Standing written (entriesAt F (groupCount F written)) (rangeBytes bits rs)
         → rangePermitted F written ≡ true
     unfolding rangePermitted
-    spans-hold rs n c same =
+    spans-hold rs n c h =
         rw (eq-eqb (categoryCount F written) 0 (category-count-back F laid s fit rest ∙ c))
-        (range-holds bits F written (groupCount F written) (listCount F written) rs (list-count-back F laid s fit rest ∙ n) (arrays-at same))
+        (range-holds bits F written (groupCount F written) (listCount F written) rs (list-count-back F laid s fit rest ∙ n) h)
 
     filed-hold : (Q : X → Type 0)
         → ((i : ℕ) (x : X) → Q x → Standing written (valueAt F (groupCount F written) (categoryCount F written) i) (leBytes 8 (bits x)) → valuePermitted F written i ≡ true)
-        → (ls : List (List X)) → entryCount (s .nature) ≡ length ls → valueCount (s .nature) ≡ total ls → natureBytes F (s .nature) ≡ listsBytes F bits ls
+        → (ls : List (List X)) → entryCount (s .nature) ≡ length ls → valueCount (s .nature) ≡ total ls → Standing written (entriesAt F (groupCount F written)) (listsBytes F bits ls)
         → length ls ≤ 256 ^ F .numberWidth → Each (Each Q) ls → listsPermitted F written ≡ true
     unfolding listsPermitted
-    filed-hold Q ok ls n c same room q =
+    filed-hold Q ok ls n c h room q =
         categories-hold bits Q F written (groupCount F written) (categoryCount F written) (listCount F written) (valuePermitted F written) ok ls
-        (list-count-back F laid s fit rest ∙ n) (category-count-back F laid s fit rest ∙ c) room q (arrays-at same)
+        (list-count-back F laid s fit rest ∙ n) (category-count-back F laid s fit rest ∙ c) room q h
 
 -- a sheet by its parts, so that its nature can be taken apart
 module _ {F : Form} (laid : Laid F) (fields : Fields) (node : ℤ) (groups : List Group) where
   abbrev with : Nature → Sheet
   with k = sheetOf F laid fields node groups k
 
+  -- the arrays, and of texts their values, as lists of bits
+  arrays : (k : Nature) (fit : WellFormed F (with k)) (rest : List ℕ) → Standing (encode F (with k) ++ rest) (entriesAt F (groupCount F (encode F (with k) ++ rest))) (natureBytes F k)
+  arrays k fit rest = arrays-at laid (with k) fit rest
+
+  spots-at :
+      (ls : List (List (List ℕ))) → WellFormed F (with (textLists ls)) → (rest : List ℕ)
+      → let t = encode F (with (textLists ls)) ++ rest in Standing t (entriesAt F (groupCount F t)) (listsBytes F asBits (spotsFrom 0 ls))
+  unfolding natureBytes
+  spots-at ls fit rest = standing-left (listsBytes F asBits (spotsFrom 0 ls)) (areaOf ls) (arrays (textLists ls) fit rest)
+
   nature-holds : (k : Nature) → WellFormed F (with k) → ValuesAllowed k → (rest : List ℕ) → naturePermitted F (encode F (with k) ++ rest) ≡ true
   unfolding naturePermitted natureBytes
   nature-holds absent fit q rest = rw (nature-byte-back F laid _ fit rest, list-count-back F laid _ fit rest, category-count-back F laid _ fit rest)
-  nature-holds (wholeRange rs) fit q rest = rw (nature-byte-back F laid _ fit rest) (spans-hold laid _ fit rest wholeBits rs refl refl refl)
-  nature-holds (floatRange rs) fit q rest = rw (nature-byte-back F laid _ fit rest) (spans-hold laid _ fit rest floatBits rs refl refl refl)
+  nature-holds (wholeRange rs) fit q rest = rw (nature-byte-back F laid _ fit rest) (spans-hold laid _ fit rest wholeBits rs refl refl (arrays (wholeRange rs) fit rest))
+  nature-holds (floatRange rs) fit q rest = rw (nature-byte-back F laid _ fit rest) (spans-hold laid _ fit rest floatBits rs refl refl (arrays (floatRange rs) fit rest))
   nature-holds (wholeLists ls) fit q rest =
       let byte = nature-byte-back F laid (with (wholeLists ls)) fit rest in
-      rw byte (filed-hold laid _ fit rest wholeBits Whole (λ i x p h. rw byte) ls refl refl refl (fit .nature .numbers) (fit .nature .values))
+      rw byte (filed-hold laid _ fit rest wholeBits Whole (λ i x p h. rw byte) ls refl refl (arrays (wholeLists ls) fit rest) (fit .nature .numbers) (fit .nature .values))
   nature-holds (boolLists ls) fit q rest =
       let byte = nature-byte-back F laid (with (boolLists ls)) fit rest in
-      rw byte (filed-hold laid _ fit rest asBits (λ v. v ≤ 1) (λ i v p h. rw (byte, number-back 8 h (omega arith)) (le-leb v 1 p)) ls refl refl refl (fit .nature .numbers) q)
+      rw byte
+      (filed-hold laid _ fit rest asBits (λ v. v ≤ 1) (λ i v p h. rw (byte, number-back 8 h (omega arith)) (le-leb v 1 p)) ls refl refl (arrays (boolLists ls) fit rest)
+      (fit .nature .numbers) q)
   nature-holds (floatLists ls) fit q rest =
       let byte = nature-byte-back F laid (with (floatLists ls)) fit rest in
-      rw byte (filed-hold laid _ fit rest asBits Bits (λ i x p h. rw byte) ls refl refl refl (fit .nature .numbers) (fit .nature .values))
+      rw byte (filed-hold laid _ fit rest asBits Bits (λ i x p h. rw byte) ls refl refl (arrays (floatLists ls) fit rest) (fit .nature .numbers) (fit .nature .values))
+  nature-holds (textLists ls) fit q rest =
+      let byte = nature-byte-back F laid (with (textLists ls)) fit rest in
+      let n = spots-length 0 ls in
+      rw byte
+      (filed-hold laid _ fit rest asBits Bits (λ i x p h. rw byte) (spotsFrom 0 ls) (sym n) (sym (spots-total 0 ls)) (spots-at ls fit rest)
+      (omega (arith, fit .nature .numbers)) (spots-fit 0 ls (omega (arith, fit .textCounted))))
+
+  -- texts lie end to end, and no other nature has an area
+  area-holds : (k : Nature) → WellFormed F (with k) → (rest : List ℕ) → areaPermitted F (encode F (with k) ++ rest) ≡ true
+  unfolding areaPermitted
+  area-holds absent fit rest = rw (nature-byte-back F laid _ fit rest, area-size-back F laid _ fit rest)
+  area-holds (wholeRange rs) fit rest = rw (nature-byte-back F laid _ fit rest, area-size-back F laid _ fit rest)
+  area-holds (floatRange rs) fit rest = rw (nature-byte-back F laid _ fit rest, area-size-back F laid _ fit rest)
+  area-holds (wholeLists ls) fit rest = rw (nature-byte-back F laid _ fit rest, area-size-back F laid _ fit rest)
+  area-holds (boolLists ls) fit rest = rw (nature-byte-back F laid _ fit rest, area-size-back F laid _ fit rest)
+  area-holds (floatLists ls) fit rest = rw (nature-byte-back F laid _ fit rest, area-size-back F laid _ fit rest)
+  area-holds (textLists ls) fit rest =
+      let size = area-size-back F laid (with (textLists ls)) fit rest in
+      rw (nature-byte-back F laid _ fit rest)
+      (texts-run F _ ls (category-count-back F laid _ fit rest) size (omega (arith, size, fit .textCounted)) (spots-at ls fit rest))
 
 -- ---- the sheet
 
@@ -275,7 +305,8 @@ module _ {F : Form} (laid : Laid F) (s : Sheet) (p : Sound F s) where
       let groups = le-ltb (F .groupLimit) (groupCount F bytes) (rw (group-count-back F laid s fit []) (p .held .groupsWithin)) in
       let lists = le-ltb (F .listLimit) (listCount F bytes) (rw (list-count-back F laid s fit []) (p .held .entriesWithin)) in
       let categories = le-ltb (F .categoryLimit) (categoryCount F bytes) (rw (category-count-back F laid s fit []) (p .values)) in
-      rw (le-ltb (length bytes) (F .arraysAt) long, groups, lists, categories, eq-eqb (length bytes) (lengthCalledFor F bytes) size)
+      let text = le-ltb (F .textLimit) (areaSize F bytes) (rw (area-size-back F laid s fit []) (p .text)) in
+      rw (le-ltb (length bytes) (F .arraysAt) long, groups, lists, categories, text, eq-eqb (length bytes) (lengthCalledFor F bytes) size)
 
   bytes-hold : bytesPermitted F bytes ≡ true
   unfolding bytesPermitted
@@ -287,23 +318,24 @@ module _ {F : Form} (laid : Laid F) (s : Sheet) (p : Sound F s) where
       let releasable = flag-holds (f .releasable) (part-at F s [] 6 (place F releasableAt) (omega arith)) in
       let not-empty = flag-holds (f .notEmpty) (part-at F s [] 7 (place F notEmptyAt) (omega arith)) in
       let ordered = flag-holds (f .ordered) (part-at F s [] 8 (place F orderedAt) (omega arith)) in
-      let reserved = zeros-hold (place F) (λ i. omega arith) reservedCount reservedAt (part-at F s [] 16 (place F reservedAt) (omega arith)) in
-      let gap = zeros-hold (λ i. i) (λ i. refl) (F .arraysAt - place F fieldsEnd) (place F fieldsEnd) (part-at F s [] 23 (place F fieldsEnd) (omega arith)) in
-      rw (nature, type, nullity, releasable, not-empty, ordered, reserved, gap)
+      let reserved = byte-back (part-at F s [] 16 (place F reservedAt) (omega arith)) in
+      let later = zeros-hold (place F) (λ i. omega arith) laterCount laterAt (part-at F s [] 18 (place F laterAt) (omega arith)) in
+      let gap = zeros-hold (λ i. i) (λ i. refl) (F .arraysAt - place F fieldsEnd) (place F fieldsEnd) (part-at F s [] 25 (place F fieldsEnd) (omega arith)) in
+      rw (nature, type, nullity, releasable, not-empty, ordered, reserved, later, gap)
 
   values-hold : valuesPermitted F bytes ≡ true
   unfolding valuesPermitted
   values-hold =
       let f = s .fields in
       let h = p .held in
-      let rows = mark-holds wholeBits (f .rows) (part-at F s [] 11 (place F rowsMarkAt) (omega arith)) (part-at F s [] 17 (place F rowsAt) (omega arith)) in
+      let rows = mark-holds wholeBits (f .rows) (part-at F s [] 11 (place F rowsMarkAt) (omega arith)) (part-at F s [] 19 (place F rowsAt) (omega arith)) in
       let columns-mark = part-at F s [] 12 (place F columnsMarkAt) (omega arith) in
-      let columns-value = part-at F s [] 18 (place F columnsAt) (omega arith) in
+      let columns-value = part-at F s [] 20 (place F columnsAt) (omega arith) in
       let columns = mark-holds asBits (f .columns) columns-mark columns-value in
       let count = columns-hold (F .columnLimit) (f .columns) (h .fields .columns) (h .allowed .columns) (h .columnsWithin) columns-mark columns-value in
-      let dataset = mark-holds wholeBits (f .dataset) (part-at F s [] 13 (place F datasetMarkAt) (omega arith)) (part-at F s [] 19 (place F datasetAt) (omega arith)) in
-      let dimensionality = mark-holds wholeBits (f .dimensionality) (part-at F s [] 14 (place F dimensionalityMarkAt) (omega arith)) (part-at F s [] 20 (place F dimensionalityAt) (omega arith)) in
-      let sample = mark-holds asBits (f .sample) (part-at F s [] 15 (place F sampleMarkAt) (omega arith)) (part-at F s [] 21 (place F sampleAt) (omega arith)) in
+      let dataset = mark-holds wholeBits (f .dataset) (part-at F s [] 13 (place F datasetMarkAt) (omega arith)) (part-at F s [] 21 (place F datasetAt) (omega arith)) in
+      let dimensionality = mark-holds wholeBits (f .dimensionality) (part-at F s [] 14 (place F dimensionalityMarkAt) (omega arith)) (part-at F s [] 22 (place F dimensionalityAt) (omega arith)) in
+      let sample = mark-holds asBits (f .sample) (part-at F s [] 15 (place F sampleMarkAt) (omega arith)) (part-at F s [] 23 (place F sampleAt) (omega arith)) in
       rw (rows, columns, count, dataset, dimensionality, sample)
 
   groups-hold : groupsPermitted F bytes ≡ true
@@ -312,12 +344,14 @@ module _ {F : Form} (laid : Laid F) (s : Sheet) (p : Sound F s) where
       let g = groupCount F bytes in
       let n = group-count-back F laid s fit [] in
       ap (λ (k : ℕ). holdsFrom k 0 (keyPermitted F bytes)) n
-      ∙ keys-hold F bytes g (s .groups) 0 (p .held .groups) (p .held .allowed .groups) (part-at F s [] 25 (keyAt F g 0) (omega arith))
+      ∙ keys-hold F bytes g (s .groups) 0 (p .held .groups) (p .held .allowed .groups) (part-at F s [] 27 (keyAt F g 0) (omega arith))
 
   encoded-permitted : fieldsFail F bytes ≡ false
   unfolding fieldsFail
   encoded-permitted =
-      rw (bytes-hold, values-hold, groups-hold, nature-holds laid (s .fields) (s .node) (s .groups) (s .nature) fit (p .held .allowed .values) [])
+      let area = area-holds laid (s .fields) (s .node) (s .groups) (s .nature) fit [] in
+      let nature = nature-holds laid (s .fields) (s .node) (s .groups) (s .nature) fit (p .held .allowed .values) [] in
+      rw (bytes-hold, values-hold, groups-hold, area, nature)
 
   pub encoded-read : Read F (encode F s)
   encoded-read = subst (Read F) (append-nil (encode F s)) (record { sizes = encoded-sized; fields = encoded-permitted })

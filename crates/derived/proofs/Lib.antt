@@ -9,5 +9,6 @@ pub mod Allowed
 pub mod Decoded
 pub mod Made
 pub mod Derived
+pub mod Ended
 pub mod Encoded
 pub mod Written

@@ -1,6 +1,6 @@
 -- The nature that a component derives keeps to the form's limits, and its numbers fit their places; or a number of 01's refuses.
---     unary-kept, binary-kept    of all components but Pool: `Kept` to the limit of categories
---     pool-made, kept-to         of Pool: `Made` however many they are, and then kept to the limit
+--     unary-kept, binary-kept    of all components but Pool: `Kept` to the limits of categories and of text
+--     pool-made, made-kept       of Pool: `Made` however many they are, and then kept to the limits
 -- Assumes nothing.
 use mathlib.Core.Path.{_≡_, refl}
 use mathlib.Core.Bool.{Bool, true, false, cond}
@@ -21,15 +21,15 @@ use Rattle.numbers.specs.Kind.{Span, whole, float, eqZ}
 use Rattle.utilities.specs.Lists.{firsts, repeated, standardized}
 use Rattle.utilities.specs.Columns.{each, eachPair}
 use Rattle.base.specs.Form.{Form, Laid, intType}
-use Rattle.base.specs.Sheet.{Nature, absent, wholeRange, floatRange, wholeLists, boolLists, floatLists}
-use Rattle.base.specs.Encode.{entryCount, valueCount}
+use Rattle.base.specs.Sheet.{Nature, absent, wholeRange, floatRange, wholeLists, boolLists, floatLists, textLists}
+use Rattle.base.specs.Encode.{entryCount, valueCount, textSize}
 use Rattle.base.specs.declared.Component.{Component}
 use Rattle.base.specs.declared.Component.the-variants as C
 use Rattle.ends.specs.Ends.{endRule}
 use Rattle.ends.specs.Ranges.{wholeRule, rangePair, rangeAlone}
-use Rattle.category_lists.specs.Categories.{remainder, modWhole, powerWhole, categoryRule, ruled, pairs, product, combined, mapped, union, united, keptTo, limited}
-use Rattle.calls.specs.Natures.{wholeListsOf, boolListsOf, unitedNature, listsUnited, listsPair, listsAlone, wholeRangeWith, floatRangeWith, listsWith, twoNatures, binaryNature, poolNature, unaryNature}
-use Rattle.round_trip.specs.WellFormed.{Each, Whole, Double, Bits, SpanFits, NatureFits}
+use Rattle.category_lists.specs.Categories.{remainder, modWhole, powerWhole, categoryRule, ruled, textRule, sameText, pairs, product, combined, mapped, union, united, keptTo, textKept, kept, limited}
+use Rattle.calls.specs.Natures.{wholeListsOf, boolListsOf, textListsOf, unitedNature, listsUnited, combinedNature, listsPair, listsAlone, wholeRangeWith, floatRangeWith, listsWith, twoNatures, binaryNature, poolNature, unaryNature}
+use Rattle.round_trip.specs.WellFormed.{Each, Whole, Double, Bits, Byte, SpanFits, NatureFits}
 use Rattle.derived.specs.Held.{ValuesAllowed}
 use Rattle.derived.proofs.Answers.{checked-rest}
 use Rattle.derived.proofs.Each.{each-append, each-repeated, each-weaken, each-firsts, each-map, repeated-within, each-length, pair-length}
@@ -66,15 +66,16 @@ power-fits a (pos n) = go (inRange (pow a n)) refl
     go false e = omega arith
 power-fits a (negsuc n) = omega arith
 
--- what a rule gives of numbers that fit, fits
-abbrev RuleFits : (ℤ → ℤ → Result ℤ) → Type 0
-RuleFits rule = (a b : ℤ) → Whole a → Whole b → Gives Whole (rule a b)
+-- what a rule gives of values that fit, fits
+module _ {E : Type 0} (P : E → Type 0) where
+  abbrev RuleFits : (E → E → Result E) → Type 0
+  RuleFits rule = (a b : E) → P a → P b → Gives P (rule a b)
 
-abbrev MaybeFits : Option (ℤ → ℤ → Result ℤ) → Type 0
-MaybeFits none = Unit {0}
-MaybeFits (some rule) = RuleFits rule
+  abbrev MaybeFits : Option (E → E → Result E) → Type 0
+  MaybeFits none = Unit {0}
+  MaybeFits (some rule) = RuleFits rule
 
-category-fits : (c : Component) (type : ℕ) → MaybeFits (categoryRule c type)
+category-fits : (c : Component) (type : ℕ) → MaybeFits Whole (categoryRule c type)
 unfolding categoryRule
 category-fits C.Abs type = λ a b p q. fitting-fits _
 category-fits C.Add type = λ a b p q. whole-fits .add a b
@@ -83,17 +84,33 @@ category-fits C.Multiply type = λ a b p q. whole-fits .mul a b
 category-fits C.Divide type = λ a b p q. whole-fits .div a b
 category-fits C.Modulo type = go (eqb type intType)
   where
-    go : (t : Bool) → MaybeFits (cond t (some modWhole) none)
+    go : (t : Bool) → MaybeFits Whole (cond t (some modWhole) none)
     go true = λ a b p q. mod-fits a b q
     go false = tt
 category-fits C.Log type = tt
 category-fits C.Power type = go (eqb type intType)
   where
-    go : (t : Bool) → MaybeFits (cond t (some powerWhole) none)
+    go : (t : Bool) → MaybeFits Whole (cond t (some powerWhole) none)
     go true = λ a b p q. power-fits a b
     go false = tt
 category-fits C.Negative type = λ a b p q. whole-fits .neg a p
 category-fits C.Pool type = tt
+
+-- two texts joined
+abbrev Text : List ℕ → Type 0
+Text x = Each Byte x
+
+text-fits : (c : Component) → MaybeFits Text (textRule c)
+text-fits C.Abs = tt
+text-fits C.Add = λ x y p q. each-append Byte x y p q
+text-fits C.Subtract = tt
+text-fits C.Multiply = tt
+text-fits C.Divide = tt
+text-fits C.Modulo = tt
+text-fits C.Log = tt
+text-fits C.Power = tt
+text-fits C.Negative = tt
+text-fits C.Pool = tt
 
 -- ---- lists
 
@@ -127,15 +144,16 @@ standard-within same columns k ls h l = repeated-within columns k (map (firsts s
 
 -- ---- natures
 
--- however many categories it holds
+-- however many categories and however much text it holds
 pub record Made (F : Form) (k : Nature) : Type 0 where
   pub entries : entryCount k ≤ F .listLimit
   pub fits : NatureFits F k
   pub allowed : ValuesAllowed k
 
-pub record Kept (F : Form) (limit : ℕ) (k : Nature) : Type 0 where
+pub record Kept (F : Form) (k : Nature) : Type 0 where
   pub made : Made F k
-  pub values : valueCount k ≤ limit
+  pub values : valueCount k ≤ F .categoryLimit
+  pub text : textSize k ≤ F .textLimit
 
 -- at most as many as a sheet may have
 abbrev Few : Form → {X : Type 0} → (X → Type 0) → List X → Type 0
@@ -153,6 +171,7 @@ module _ {F : Form} (laid : Laid F) where
   wholes-in (wholeLists ls) p = p .values
   wholes-in (boolLists ls) p = tt
   wholes-in (floatLists ls) p = tt
+  wholes-in (textLists ls) p = tt
 
   bools-in : (k : Nature) → ValuesAllowed k → Each Bools (boolListsOf k)
   bools-in absent p = tt
@@ -161,6 +180,16 @@ module _ {F : Form} (laid : Laid F) where
   bools-in (wholeLists ls) p = tt
   bools-in (boolLists ls) p = p
   bools-in (floatLists ls) p = tt
+  bools-in (textLists ls) p = tt
+
+  texts-in : (k : Nature) → NatureFits F k → Each (Each Text) (textListsOf k)
+  texts-in absent p = tt
+  texts-in (wholeRange rs) p = tt
+  texts-in (floatRange rs) p = tt
+  texts-in (wholeLists ls) p = tt
+  texts-in (boolLists ls) p = tt
+  texts-in (floatLists ls) p = tt
+  texts-in (textLists ls) p = p .values
 
   absent-made : Made F absent
   absent-made = record { entries = omega arith; fits = tt; allowed = tt }
@@ -180,21 +209,35 @@ module _ {F : Form} (laid : Laid F) where
         allowed = f .1;
       }
 
-  pub kept-to : (limit : ℕ) (k : Nature) → Made F k → Gives (Kept F limit) (keptTo limit k)
+  text-lists-made : (ls : List (List (List ℕ))) → Few F (Each Text) ls → Made F (textLists ls)
+  text-lists-made ls f = let n = f .0 in record { entries = n; fits = record { numbers = omega (arith, laid .listsNumbered); values = f .1 }; allowed = tt }
+
+  -- 26, and of texts 28 behind it
+  whole-kept : (ls : List (List ℤ)) → Made F (wholeLists ls) → Gives (Kept F) (keptTo (F .categoryLimit) (wholeLists ls))
   unfolding keptTo
-  kept-to limit k m = go (ltb limit (valueCount k)) refl
+  whole-kept ls m = go (ltb (F .categoryLimit) (valueCount (wholeLists ls))) refl
     where
-      go : (t : Bool) → ltb limit (valueCount k) ≡ t → Gives (Kept F limit) (cond t (refused 26) (ok k))
+      go : (t : Bool) → ltb (F .categoryLimit) (valueCount (wholeLists ls)) ≡ t → Gives (Kept F) (cond t (refused 26) (ok (wholeLists ls)))
       go true h = omega arith
-      go false h = record { made = m; values = ltb-false limit (valueCount k) h }
+      go false h = record { made = m; values = ltb-false (F .categoryLimit) (valueCount (wholeLists ls)) h; text = omega arith }
 
-  limited-kept : (limit : ℕ) (g : Result (List (List ℤ))) → Gives (Few F Wholes) g → Gives (Kept F limit) (limited limit g)
-  limited-kept limit g h = gives-then (Few F Wholes) (Kept F limit) g _ h (λ ls f. kept-to limit (wholeLists ls) (whole-lists-made ls f))
+  pub made-kept : (k : Nature) → Made F k → Gives (Kept F) (kept F k)
+  unfolding keptTo textKept
+  made-kept k m = go (ltb (F .categoryLimit) (valueCount k)) (ltb (F .textLimit) (textSize k)) refl refl
+    where
+      go : (t x : Bool) → ltb (F .categoryLimit) (valueCount k) ≡ t → ltb (F .textLimit) (textSize k) ≡ x
+          → Gives (Kept F) (andThen (cond t (refused 26) (ok k)) (λ k′. cond (ltb (F .textLimit) (textSize k′)) (refused 28) (ok k′)))
+      go true x h e = omega arith
+      go false true h e = rw e (omega arith)
+      go false false h e = rw e (record { made = m; values = ltb-false (F .categoryLimit) (valueCount k) h; text = ltb-false (F .textLimit) (textSize k) e })
 
-  ruled-kept : (limit : ℕ) (o : Option (ℤ → ℤ → Result ℤ)) (rest : (ℤ → ℤ → Result ℤ) → Result Nature) → MaybeFits o
-      → ((rule : ℤ → ℤ → Result ℤ) → RuleFits rule → Gives (Kept F limit) (rest rule)) → Gives (Kept F limit) (ruled o rest)
-  ruled-kept limit none rest f h = omega arith
-  ruled-kept limit (some rule) rest f h = h rule f
+  limited-kept : (g : Result (List (List ℤ))) → Gives (Few F Wholes) g → Gives (Kept F) (limited (F .categoryLimit) g)
+  limited-kept g h = gives-then (Few F Wholes) (Kept F) g _ h (λ ls f. whole-kept ls (whole-lists-made ls f))
+
+  ruled-kept : {E : Type 0} (P : E → Type 0) (o : Option (E → E → Result E)) (rest : (E → E → Result E) → Result Nature) → MaybeFits P o
+      → ((rule : E → E → Result E) → RuleFits P rule → Gives (Kept F) (rest rule)) → Gives (Kept F) (ruled o rest)
+  ruled-kept P none rest f h = omega arith
+  ruled-kept P (some rule) rest f h = h rule f
 
   module _ (columns : ℕ) (few : columns ≤ F .columnLimit) where
     listed : columns ≤ F .listLimit
@@ -241,15 +284,15 @@ module _ {F : Form} (laid : Laid F) where
           (omega arith, f))
 
     -- what holds of every nature that holds no categories
-    module _ (Q : Nature → Type 0) (plain : (k : Nature) → Made F k → valueCount k ≡ 0 → Q k) where
+    module _ (Q : Nature → Type 0) (plain : (k : Nature) → Made F k → valueCount k ≡ 0 → textSize k ≡ 0 → Q k) where
       absent-gives : Q absent
-      absent-gives = plain absent absent-made refl
+      absent-gives = plain absent absent-made refl refl
 
       whole-gives : (g : Result (List (Span ℤ))) → Gives (Few F (SpanFits Whole)) g → Gives Q (andThen g (λ zs. ok (wholeRange zs)))
-      whole-gives g h = gives-then (Few F (SpanFits Whole)) Q g _ h (λ zs f. plain (wholeRange zs) (record { entries = f .0; fits = f .1; allowed = tt }) refl)
+      whole-gives g h = gives-then (Few F (SpanFits Whole)) Q g _ h (λ zs f. plain (wholeRange zs) (record { entries = f .0; fits = f .1; allowed = tt }) refl refl)
 
       float-gives : (g : Result (List (Span Float))) → Gives (Few F (SpanFits Double)) g → Gives Q (andThen g (λ zs. ok (floatRange zs)))
-      float-gives g h = gives-then (Few F (SpanFits Double)) Q g _ h (λ zs f. plain (floatRange zs) (record { entries = f .0; fits = f .1; allowed = tt }) refl)
+      float-gives g h = gives-then (Few F (SpanFits Double)) Q g _ h (λ zs f. plain (floatRange zs) (record { entries = f .0; fits = f .1; allowed = tt }) refl refl)
 
       module _ (c : Component) (type : ℕ) (together : Nature → Nature → Result Nature) where
         whole-with : (xs : List (Span ℤ)) (r : Nature) → length xs ≤ F .listLimit → Each (SpanFits Whole) xs → NatureFits F r
@@ -262,6 +305,7 @@ module _ {F : Form} (laid : Laid F) where
         whole-with xs (wholeLists ms) n p q = absent-gives
         whole-with xs (boolLists ms) n p q = absent-gives
         whole-with xs (floatLists ms) n p q = absent-gives
+        whole-with xs (textLists ms) n p q = absent-gives
 
         float-with : (xs : List (Span Float)) (r : Nature) → length xs ≤ F .listLimit → Each (SpanFits Double) xs → NatureFits F r
             → Gives Q (floatRangeWith c type columns together xs r)
@@ -273,6 +317,7 @@ module _ {F : Form} (laid : Laid F) where
         float-with xs (wholeLists ms) n p q = absent-gives
         float-with xs (boolLists ms) n p q = absent-gives
         float-with xs (floatLists ms) n p q = absent-gives
+        float-with xs (textLists ms) n p q = absent-gives
 
         lists-with : (l r : Nature) → Gives Q (together l r) → Gives Q (listsWith c type columns together l r)
         unfolding listsWith
@@ -282,6 +327,7 @@ module _ {F : Form} (laid : Laid F) where
         lists-with l (wholeLists ms) h = h
         lists-with l (boolLists ms) h = h
         lists-with l (floatLists ms) h = h
+        lists-with l (textLists ms) h = h
 
         two-give : (l r : Nature) → Made F l → Made F r → Gives Q (together l r) → Gives Q (twoNatures c type columns together l r)
         unfolding twoNatures
@@ -291,6 +337,7 @@ module _ {F : Form} (laid : Laid F) where
         two-give (wholeLists ls) r p q h = lists-with (wholeLists ls) r h
         two-give (boolLists ls) r p q h = lists-with (boolLists ls) r h
         two-give (floatLists ls) r p q h = lists-with (floatLists ls) r h
+        two-give (textLists ls) r p q h = lists-with (textLists ls) r h
 
     -- ---- Pool
 
@@ -306,42 +353,54 @@ module _ {F : Form} (laid : Laid F) where
         gives-then (Few F Bools) (Made F) (united eqb columns ls (boolListsOf r)) _
         (joined-few (λ v. v ≤ 1) eqb (union eqb) (union-fits (λ v. v ≤ 1) eqb) ls (boolListsOf r) (p .entries) (p .allowed) (bools-in r (q .allowed))) bool-lists-made
     united-made (floatLists ls) r p q = absent-made
+    united-made (textLists ls) r p q =
+        gives-then (Few F (Each Text)) (Made F) (united sameText columns ls (textListsOf r)) _
+        (joined-few Text sameText (union sameText) (union-fits Text sameText) ls (textListsOf r) (p .entries) (p .fits .values) (texts-in r (q .fits))) text-lists-made
 
     pub pool-made : (c : Component) (type : ℕ) (l r : Nature) → Made F l → Made F r → Gives (Made F) (poolNature c type columns l r)
     unfolding listsUnited
     pool-made c type l r p q =
-        two-give (Made F) (λ k m e. m) c type (listsUnited columns) l r p q
+        two-give (Made F) (λ k m e x. m) c type (listsUnited columns) l r p q
         (gives-checked (Made F) _ (unitedNature columns l r) refl (united-made l r p q))
 
     -- ---- the other components
 
-    module _ (limit : ℕ) (c : Component) (type : ℕ) where
-      plain-kept : (k : Nature) → Made F k → valueCount k ≡ 0 → Kept F limit k
-      plain-kept k m e = record { made = m; values = omega (arith, e) }
+    plain-kept : (k : Nature) → Made F k → valueCount k ≡ 0 → textSize k ≡ 0 → Kept F k
+    plain-kept k m e x = record { made = m; values = omega (arith, e); text = omega (arith, x) }
 
-      -- whole categories alone have a rule
-      pair-kept : (l r : Nature) → Made F l → Made F r → Gives (Kept F limit) (listsPair limit c type columns l r)
-      unfolding listsPair combined
-      pair-kept absent r p q = gives-checked (Kept F limit) _ (refused 22) refl (omega arith)
-      pair-kept (wholeRange xs) r p q = gives-checked (Kept F limit) _ (refused 22) refl (omega arith)
-      pair-kept (floatRange xs) r p q = gives-checked (Kept F limit) _ (refused 22) refl (omega arith)
-      pair-kept (wholeLists ls) r p q =
-          gives-checked (Kept F limit) _ _ refl
-          (ruled-kept limit (categoryRule c type) _ (category-fits c type)
+    module _ (c : Component) (type : ℕ) where
+      -- whole categories and texts alone have a rule
+      combined-kept : (l r : Nature) → Made F l → Made F r → Gives (Kept F) (combinedNature F c type columns l r)
+      unfolding combined
+      combined-kept absent r p q = omega arith
+      combined-kept (wholeRange xs) r p q = omega arith
+      combined-kept (floatRange xs) r p q = omega arith
+      combined-kept (wholeLists ls) r p q =
+          ruled-kept Whole (categoryRule c type) _ (category-fits c type)
           (λ rule f.
-          limited-kept limit (combined eqZ rule columns ls (wholeListsOf r))
-          (joined-few Whole eqZ (product eqZ rule) (product-fits Whole eqZ rule f) ls (wholeListsOf r) (p .entries) (p .fits .values) (wholes-in r (q .fits)))))
-      pair-kept (boolLists ls) r p q = gives-checked (Kept F limit) _ (refused 22) refl (omega arith)
-      pair-kept (floatLists ls) r p q = gives-checked (Kept F limit) _ (refused 22) refl (omega arith)
+          limited-kept (combined eqZ rule columns ls (wholeListsOf r))
+          (joined-few Whole eqZ (product eqZ rule) (product-fits Whole eqZ rule f) ls (wholeListsOf r) (p .entries) (p .fits .values) (wholes-in r (q .fits))))
+      combined-kept (boolLists ls) r p q = omega arith
+      combined-kept (floatLists ls) r p q = omega arith
+      combined-kept (textLists ls) r p q =
+          ruled-kept Text (textRule c) _ (text-fits c)
+          (λ rule f.
+          gives-then (Few F (Each Text)) (Kept F) (combined sameText rule columns ls (textListsOf r)) _
+          (joined-few Text sameText (product sameText rule) (product-fits Text sameText rule f) ls (textListsOf r) (p .entries) (p .fits .values) (texts-in r (q .fits)))
+          (λ ns m. made-kept (textLists ns) (text-lists-made ns m)))
 
-      alone-kept : (ls : List (List ℤ)) → length ls ≤ F .listLimit → Each Wholes ls → Gives (Kept F limit) (listsAlone limit c type columns (wholeLists ls))
+      pair-kept : (l r : Nature) → Made F l → Made F r → Gives (Kept F) (listsPair F c type columns l r)
+      unfolding listsPair
+      pair-kept l r p q = gives-checked (Kept F) _ (combinedNature F c type columns l r) refl (combined-kept l r p q)
+
+      alone-kept : (ls : List (List ℤ)) → length ls ≤ F .listLimit → Each Wholes ls → Gives (Kept F) (listsAlone (F .categoryLimit) c type columns (wholeLists ls))
       unfolding listsAlone mapped
       alone-kept ls n p =
           let us = standardized eqZ columns ls in
-          gives-checked (Kept F limit) _ _ refl
-          (ruled-kept limit (categoryRule c type) _ (category-fits c type)
+          gives-checked (Kept F) _ _ refl
+          (ruled-kept Whole (categoryRule c type) _ (category-fits c type)
           (λ rule f.
-          limited-kept limit (each (each (λ a. rule a a)) us)
+          limited-kept (each (each (λ a. rule a a)) us)
           (gives-more (Each Wholes) (Few F Wholes) (each (each (λ a. rule a a)) us)
           (each-gives Wholes Wholes (each (λ a. rule a a)) (λ l q. each-gives Whole Whole (λ a. rule a a) (λ a w. f a a w w) l q) us (standard-each Whole eqZ columns ls p))
           (λ ns e m.
@@ -349,18 +408,19 @@ module _ {F : Form} (laid : Laid F) where
           let b = standard-within eqZ columns (F .listLimit) ls listed n in
           (omega arith, m)))))
 
-      pub binary-kept : (l r : Nature) → Made F l → Made F r → Gives (Kept F limit) (binaryNature limit c type columns l r)
-      binary-kept l r p q = two-give (Kept F limit) plain-kept c type (listsPair limit c type columns) l r p q (pair-kept l r p q)
+      pub binary-kept : (l r : Nature) → Made F l → Made F r → Gives (Kept F) (binaryNature F c type columns l r)
+      binary-kept l r p q = two-give (Kept F) plain-kept c type (listsPair F c type columns) l r p q (pair-kept l r p q)
 
-      pub unary-kept : (l : Nature) → Made F l → Gives (Kept F limit) (unaryNature limit c type columns l)
+      pub unary-kept : (l : Nature) → Made F l → Gives (Kept F) (unaryNature (F .categoryLimit) c type columns l)
       unfolding unaryNature listsAlone
-      unary-kept absent p = plain-kept absent absent-made refl
+      unary-kept absent p = plain-kept absent absent-made refl refl
       unary-kept (wholeRange xs) p =
-          whole-gives (Kept F limit) plain-kept (rangeAlone (endRule whole c) columns xs)
+          whole-gives (Kept F) plain-kept (rangeAlone (endRule whole c) columns xs)
           (alone-few Whole (endRule whole c) (rule-fits whole Whole whole-fits c) xs (p .entries) (p .fits))
       unary-kept (floatRange xs) p =
-          float-gives (Kept F limit) plain-kept (rangeAlone (endRule float c) columns xs)
+          float-gives (Kept F) plain-kept (rangeAlone (endRule float c) columns xs)
           (alone-few Double (endRule float c) (rule-fits float Double float-fits c) xs (p .entries) (p .fits))
       unary-kept (wholeLists ls) p = alone-kept ls (p .entries) (p .fits .values)
-      unary-kept (boolLists ls) p = gives-checked (Kept F limit) _ (refused 22) refl (omega arith)
-      unary-kept (floatLists ls) p = gives-checked (Kept F limit) _ (refused 22) refl (omega arith)
+      unary-kept (boolLists ls) p = gives-checked (Kept F) _ (refused 22) refl (omega arith)
+      unary-kept (floatLists ls) p = gives-checked (Kept F) _ (refused 22) refl (omega arith)
+      unary-kept (textLists ls) p = gives-checked (Kept F) _ (refused 22) refl (omega arith)

@@ -30,11 +30,11 @@ use Rattle.derived.proofs.Derived.{derived-sound, numbered-sound}
 use Rattle.derived.proofs.Encoded.{encoded-read}
 
 -- Abs and Negative read the left alone
-unary-any : (c : Component) (n : ℕ) (l r : Sheet) → isUnary (familyOf c) ≡ true → derive n c l l ≡ derive n c l r
+unary-any : (c : Component) (F : Form) (l r : Sheet) → isUnary (familyOf c) ≡ true → derive F c l l ≡ derive F c l r
 unfolding derive
-unary-any c n l r = go (familyOf c)
+unary-any c F l r = go (familyOf c)
   where
-    go : (f : Family) → isUnary f ≡ true → deriveBy n c f l l ≡ deriveBy n c f l r
+    go : (f : Family) → isUnary f ≡ true → deriveBy F c f l l ≡ deriveBy F c f l r
     go Fam.Unary e = refl
     go Fam.Pair e = absurd (subst T (sym e) tt)
     go Fam.Copy e = absurd (subst T (sym e) tt)
@@ -42,35 +42,35 @@ unary-any c n l r = go (familyOf c)
 
 module _ {F : Form} (laid : Laid F) (c : Component) (left right : List ℕ) where
   abbrev Deriving : Sheet → Type 0
-  Deriving s = (derive (F .categoryLimit) c (decode F left) (decode F right) ≡ ok s) × Sound F s
+  Deriving s = (derive F c (decode F left) (decode F right) ≡ ok s) × Sound F s
 
   -- they are those of the derived sheet
   pub record Written (k : ℕ) (vs : List ℕ) : Type 0 where
     pub sheet : Sheet
-    pub derived : derive (F .categoryLimit) c (decode F left) (decode F right) ≡ ok sheet
+    pub derived : derive F c (decode F left) (decode F right) ≡ ok sheet
     pub sound : Sound F (numbered (familyOf c) k sheet)
     pub bytes : vs ≡ encode F (numbered (familyOf c) k sheet)
 
   module _ (p : Held F (decode F left)) (q : Held F (decode F right)) where
     -- behind the left sheet, l
     abbrev behind : Sheet → Result Sheet
-    behind l = cond (isUnary (familyOf c)) (derive (F .categoryLimit) c l l) (andThen (read F right) (λ r. derive (F .categoryLimit) c l r))
+    behind l = cond (isUnary (familyOf c)) (derive F c l l) (andThen (read F right) (λ r. derive F c l r))
 
     behind-gives : Gives Deriving (behind (decode F left))
     behind-gives = go (isUnary (familyOf c)) refl
       where
         go : (t : Bool) → isUnary (familyOf c) ≡ t
-            → Gives Deriving (cond t (derive (F .categoryLimit) c (decode F left) (decode F left)) (andThen (read F right) (λ r. derive (F .categoryLimit) c (decode F left) r)))
+            → Gives Deriving (cond t (derive F c (decode F left) (decode F left)) (andThen (read F right) (λ r. derive F c (decode F left) r)))
         go true e =
             let l = decode F left in
-            gives-more (Sound F) Deriving (derive (F .categoryLimit) c l l) (derived-sound laid c l l p p) (λ s d f. (sym (unary-any c (F .categoryLimit) l (decode F right) e) ∙ d, f))
+            gives-more (Sound F) Deriving (derive F c l l) (derived-sound laid c l l p p) (λ s d f. (sym (unary-any c F l (decode F right) e) ∙ d, f))
         go false e =
             let l = decode F left in
             let r = decode F right in
             gives-then (λ x. Passed F right × (x ≡ r)) Deriving (read F right) _ (read-gives F right)
             (λ x h.
-            subst (λ (y : Sheet). Gives Deriving (derive (F .categoryLimit) c l y)) (sym (h .1))
-            (gives-more (Sound F) Deriving (derive (F .categoryLimit) c l r) (derived-sound laid c l r p q) (λ s d f. (d, f))))
+            subst (λ (y : Sheet). Gives Deriving (derive F c l y)) (sym (h .1))
+            (gives-more (Sound F) Deriving (derive F c l r) (derived-sound laid c l r p q) (λ s d f. (d, f))))
 
     sheet-gives : Gives Deriving (stepSheet F c left right)
     unfolding stepSheet

@@ -4,8 +4,8 @@ use mathlib.Core.Path.{_≡_}
 use Prim.Native.Nat.{_≤_, _<_}
 use lib.ListN.{length}
 use Rattle.base.specs.Form.{Form, lastType, boolKey, lastKey}
-use Rattle.base.specs.Sheet.{Group, Nature, absent, wholeRange, floatRange, wholeLists, boolLists, floatLists, Sheet}
-use Rattle.base.specs.Encode.{wholeBits, entryCount, valueCount}
+use Rattle.base.specs.Sheet.{Group, Nature, absent, wholeRange, floatRange, wholeLists, boolLists, floatLists, textLists, Sheet}
+use Rattle.base.specs.Encode.{wholeBits, entryCount, valueCount, textSize}
 use Rattle.shape.specs.Shape.{columnsOf}
 use Rattle.round_trip.specs.WellFormed.{Each, Present, Whole, FieldsFit, GroupFits, NatureFits}
 
@@ -23,6 +23,7 @@ ValuesAllowed (floatRange rs) = Unit {0}
 ValuesAllowed (wholeLists ls) = Unit {0}
 ValuesAllowed (boolLists ls) = Each (Each (λ v. v ≤ 1)) ls
 ValuesAllowed (floatLists ls) = Unit {0}
+ValuesAllowed (textLists ls) = Unit {0}
 
 -- what 4 asks of values that fit their places
 pub record Allowed (s : Sheet) : Type 0 where
@@ -32,7 +33,7 @@ pub record Allowed (s : Sheet) : Type 0 where
   pub values : ValuesAllowed (s .nature)
 
 module _ (F : Form) where
-  -- how many categories it holds is not asked: a step counts those of its own result
+  -- how many categories and how much text it holds is not asked: a step counts those of its own result
   pub record Held (s : Sheet) : Type 0 where
     pub groupsWithin : length (s .groups) ≤ F .groupLimit
     pub entriesWithin : entryCount (s .nature) ≤ F .listLimit
@@ -43,7 +44,8 @@ module _ (F : Form) where
     pub nature : NatureFits F (s .nature)
     pub allowed : Allowed s
 
-  -- an operand again, whose categories keep to the limit
+  -- an operand again, whose categories and text keep to their limits
   pub record Sound (s : Sheet) : Type 0 where
     pub held : Held s
     pub values : valueCount (s .nature) ≤ F .categoryLimit
+    pub text : textSize (s .nature) ≤ F .textLimit

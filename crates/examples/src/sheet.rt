@@ -65,7 +65,7 @@ pub(crate) fn private(s: &mut [u8], n: u8)
 // A whole range of one entry, which stands for every column; answers the sheet's length.
 pub(crate) fn range(s: &mut [u8], e: Ends, columns: u8) -> usize
     requires { ⌜ longest narrow ≤ length (now s) ⌝ }
-    ensures { λ r. ⌜ r ≡ calledFor narrow wholeRangeNature 0 1 0 ⌝ }
+    ensures { λ r. ⌜ r ≡ calledFor narrow wholeRangeNature 0 1 0 0 ⌝ }
 {
     let lower = e.0;
     let upper = e.1;
@@ -77,7 +77,7 @@ pub(crate) fn range(s: &mut [u8], e: Ends, columns: u8) -> usize
 // Two whole categories, in one list or in two; answers the sheet's length.
 pub(crate) fn categories(s: &mut [u8], a: i64, b: i64, lists: u8, columns: u8) -> usize
     requires { ⌜ longest narrow ≤ length (now s) ⌝ }
-    ensures { λ r. ⌜ r ≡ calledFor narrow wholeListsNature 0 lists 2 ⌝ }
+    ensures { λ r. ⌜ r ≡ calledFor narrow wholeListsNature 0 lists 2 0 ⌝ }
 {
     head(s, form::WHOLE_LISTS, lists, columns);
     bytes::put_u8(s, CATEGORIES_AT, 2);

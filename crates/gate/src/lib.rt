@@ -9,10 +9,38 @@ use plan_leaves::Walked;
 ghost use mathlib.Core.Path.{_≡_};
 ghost use Prim.Native.Nat.{_%_, _^_};
 ghost use Rattle.base.specs.Form.{narrow};
-ghost use Rattle.calls.specs.Single.{single};
+ghost use Rattle.calls.specs.Single.{single, step, delivery};
 ghost use Rattle.calls.specs.Walk as Walk;
 ghost use Rattle.containment.specs.Demand.{Contained};
 ghost use Rattle.replies.specs.Reply.{replied};
+
+// The single call where texts may be joined or united, in buffers that have room for an area.
+fn join_texts(c: Component, node: u32, left: &[u8], right: &[u8], out: &mut [u8]) -> u64
+    ensures { λ r. ⌜ replied r (now (out .exit)) ≡ delivery (step narrow c node (now (left .entry)) (now (right .entry))) (now (out .entry)) ⌝ }
+{
+    let mut first = [0u8; form::NARROW_ENDS_ROOM];
+    let mut second = [0u8; form::NARROW_TEXTS_ROOM];
+    let mut us = [0i64; form::NARROW_CATEGORY_LIMIT];
+    let mut bs = [0i64; form::NARROW_CATEGORY_LIMIT];
+    let mut store = [0i64; form::NARROW_CATEGORY_LIMIT];
+    let mut hints = [0u8; utilities::HINTS];
+    let mut scratch = [0u8; form::NARROW_LONGEST];
+    let joined = transforms::step(
+        Form::Narrow,
+        c,
+        node,
+        left,
+        right,
+        &mut first,
+        &mut second,
+        &mut us,
+        &mut bs,
+        &mut store,
+        &mut hints,
+        &mut scratch,
+    );
+    replies::deliver_reply(joined, &scratch, out)
+}
 
 // The step works in buffers that are made here; those for categories only where some are mapped, combined or united.
 #[no_mangle]
@@ -30,6 +58,9 @@ pub extern "C" fn propagate_property(
         return replies::reply(refusals::NO_COMPONENT, 0);
     };
     let f = Form::Narrow;
+    if lending::joins_texts(f, c, left, right) {
+        return join_texts(c, node, left, right, out);
+    }
     let mut first = [0u8; form::NARROW_ENDS_ROOM];
     if lending::joins_lists(f, c, left, right) {
         let mut second = [0u8; form::NARROW_VALUES_ROOM];
@@ -37,7 +68,7 @@ pub extern "C" fn propagate_property(
         let mut bs = [0i64; form::NARROW_CATEGORY_LIMIT];
         let mut store = [0i64; form::NARROW_CATEGORY_LIMIT];
         let mut hints = [0u8; utilities::HINTS];
-        let mut scratch = [0u8; form::NARROW_LONGEST];
+        let mut scratch = [0u8; form::NARROW_LISTS_LONGEST];
         let put = transforms::step(
             f,
             c,
@@ -111,7 +142,7 @@ pub extern "C" fn propagate_properties(plan: &[u8], work: &mut [u8]) -> u64
     let Walked::Next(m) = ranges else {
         return replies::walked_reply(ranges);
     };
-    let mut second = [0u8; form::NARROW_VALUES_ROOM];
+    let mut second = [0u8; form::NARROW_TEXTS_ROOM];
     let mut us = [0i64; form::NARROW_CATEGORY_LIMIT];
     let mut bs = [0i64; form::NARROW_CATEGORY_LIMIT];
     let mut store = [0i64; form::NARROW_CATEGORY_LIMIT];

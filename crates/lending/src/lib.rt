@@ -6,9 +6,19 @@ use base::form::Form;
 ghost use mathlib.Core.Path.{_≡_};
 ghost use Rattle.base.specs.Form.{formOf};
 ghost use Rattle.base.specs.Components.{familyOf};
-ghost use Rattle.lending.specs.Code.{holdsCategories, holdsLists, joinsLists};
+ghost use Rattle.lending.specs.Code.{holdsCategories, holdsTexts, holdsLists, joinsLists, joinsTexts};
 
-// Whether a sheet has whole categories, which alone are mapped or combined.
+// Whether a sheet has texts.
+pub fn holds_texts(f: Form, s: &[u8]) -> bool
+    ensures { λ r. ⌜ r ≡ holdsTexts (formOf f) (now (s .entry)) ⌝ }
+{
+    if s.len() < f.arrays_at() {
+        return false;
+    }
+    base::nature_of(f, s) == form::TEXT_LISTS
+}
+
+// Whether a sheet has whole categories, which alone are mapped, and combined by every rule.
 pub fn holds_lists(f: Form, s: &[u8]) -> bool
     ensures { λ r. ⌜ r ≡ holdsLists (formOf f) (now (s .entry)) ⌝ }
 {
@@ -41,5 +51,21 @@ pub fn joins_lists(f: Form, c: Component, left: &[u8], right: &[u8]) -> bool
         Family::Pair => holds_lists(f, left) & holds_lists(f, right),
         Family::Copy => false,
         Family::Pool => holds_categories(f, right),
+    }
+}
+
+// Whether a step may join or unite texts: only then does it use room for an area.
+pub fn joins_texts(f: Form, c: Component, left: &[u8], right: &[u8]) -> bool
+    ensures { λ r. ⌜ r ≡ joinsTexts (familyOf c) (formOf f) (now (left .entry)) (now (right .entry)) ⌝ }
+{
+    if !holds_texts(f, left) {
+        return false;
+    }
+    let family = c.family();
+    match family {
+        Family::Unary => false,
+        Family::Pair => holds_texts(f, right),
+        Family::Copy => false,
+        Family::Pool => holds_texts(f, right),
     }
 }

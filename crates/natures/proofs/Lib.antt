@@ -1,3 +1,4 @@
 -- What the proofs of several functions cite.
 pub mod Listing
 pub mod Sorted
+pub mod Joined

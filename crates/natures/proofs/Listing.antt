@@ -2,9 +2,9 @@
 --     both-code, code-is                                       19 to 21 in parts, as the code makes them
 --     fine, kinds, is-whole, categories, fine-listed, joint    operands that pass
 --     paired                                                   which components have a rule on two
---     pair-fails, bool-pair, no-rule, pair-ruled               two operands that are combined
+--     pair-fails, pair-joins, other-pair, no-rule, pair-ruled  two operands that are combined
 --     union-fails, union-joins                                 two that are united
---     alone-fails, bool-alone, alone-ruled                     one
+--     alone-fails, other-alone, alone-ruled                    one
 -- Assumes nothing.
 use mathlib.Core.Path.{_≡_, refl, sym, ap, ap₂, _∙_}
 use mathlib.Core.Bool.{Bool, true, false, cond, not}
@@ -28,15 +28,16 @@ use Rattle.base.specs.declared.Component.{Component}
 use Rattle.base.specs.declared.Component.the-variants as C
 use Rattle.base.specs.declared.Family.{Family}
 use Rattle.base.specs.declared.Family.the-variants as Fam
-use Rattle.base.proofs.Natures.{nature-whole-lists, nature-bool-lists}
+use Rattle.base.proofs.Permitted.{permitted, nature-within}
+use Rattle.base.proofs.Natures.{nature-whole-lists, nature-bool-lists, nature-text-lists}
 use Rattle.category_lists.specs.Categories.{categoryRule, ruled, ruleOf, combined, mapped, limited}
 use Rattle.category_lists.specs.Columnwise.{Listed}
 use Rattle.orders.specs.Parts.{next, isIntCopy}
 use Rattle.orders.proofs.Refusals.{Numbered, first-append, checked-passes, checked-refuses}
 use Rattle.orders.proofs.Passing.{Passing, all-pass}
-use Rattle.calls.specs.Natures.{ruleFor, wholeListsOf, listChecks, bothListChecks, unitedNature, listsUnited, listsPair, listsAlone}
+use Rattle.calls.specs.Natures.{ruleFor, wholeListsOf, listChecks, bothListChecks, unitedNature, listsUnited, combinedNature, listsPair, listsAlone}
 use Rattle.natures.specs.Code.{Lists, Reached, hasRule}
-use Rattle.natures.proofs.Sorted.{yes-no, nature-within, number-of, count-of}
+use Rattle.natures.proofs.Sorted.{yes-no, number-of, count-of}
 
 -- ---- 19 to 21
 
@@ -78,24 +79,26 @@ module _ {F : Form} {s : List ℕ} (f : Fine F s) where
   no-float : byteAt F natureAt s ≡ 5 → ⊥
   no-float e = eqb-false (natureNumber (natureIn F s)) 5 (f .codes .0) (number-of F s (f .lists .read) ∙ e)
 
-  -- whole or bool
-  pub kinds : (byteAt F natureAt s ≡ 3) ⊎ (byteAt F natureAt s ≡ 4)
-  kinds = go (byteAt F natureAt s) (nature-within F s (f .lists .read)) (f .lists .present) (f .lists .no-range) no-float
+  -- whole, bool or text
+  pub kinds : (byteAt F natureAt s ≡ 3) ⊎ ((byteAt F natureAt s ≡ 4) ⊎ (byteAt F natureAt s ≡ 6))
+  kinds = go (byteAt F natureAt s) (nature-within F s (permitted F s (f .lists .read .fields))) (f .lists .present) (f .lists .no-range) no-float
     where
-      go : (k : ℕ) → k ≤ 5 → eqb k 0 ≡ false → isRangeNature k ≡ false → (k ≡ 5 → ⊥) → (k ≡ 3) ⊎ (k ≡ 4)
+      go : (k : ℕ) → k ≤ 6 → eqb k 0 ≡ false → isRangeNature k ≡ false → (k ≡ 5 → ⊥) → (k ≡ 3) ⊎ ((k ≡ 4) ⊎ (k ≡ 6))
       go zero h p r x = absurd (yes-no p)
       go (suc zero) h p r x = absurd (yes-no r)
       go (suc (suc zero)) h p r x = absurd (yes-no r)
       go (suc (suc (suc zero))) h p r x = inl refl
-      go (suc (suc (suc (suc zero)))) h p r x = inr refl
+      go (suc (suc (suc (suc zero)))) h p r x = inr (inl refl)
       go (suc (suc (suc (suc (suc zero))))) h p r x = absurd (x refl)
-      go (suc (suc (suc (suc (suc (suc k)))))) h p r x = absurd (omega arith)
+      go (suc (suc (suc (suc (suc (suc zero)))))) h p r x = inr (inr refl)
+      go (suc (suc (suc (suc (suc (suc (suc k))))))) h p r x = absurd (omega arith)
 
-  pub is-whole : (byteAt F natureAt s ≡ 4 → ⊥) → byteAt F natureAt s ≡ 3
-  is-whole other = ⊎-elim (λ e. e) (λ e. absurd (other e)) kinds
+  -- whole or bool, where it is no text
+  pub no-text : (byteAt F natureAt s ≡ 6 → ⊥) → (byteAt F natureAt s ≡ 3) ⊎ (byteAt F natureAt s ≡ 4)
+  no-text other = ⊎-elim (λ e. inl e) (λ h. ⊎-elim (λ e. inr e) (λ e. absurd (other e)) h) kinds
 
   pub categories : wholeListsNature ≤ byteAt F natureAt s
-  categories = ⊎-elim (λ e. omega (arith, e)) (λ e. omega (arith, e)) kinds
+  categories = ⊎-elim (λ e. omega (arith, e)) (λ h. ⊎-elim (λ e. omega (arith, e)) (λ e. omega (arith, e)) h) kinds
 
   pub fine-listed : Listed F s
   fine-listed =
@@ -157,44 +160,46 @@ rule-some c type h = rule-is c type (ruled-apart (familyOf c) type h) ∙ ap (λ
 
 -- ---- two operands
 
--- what 19 to 21 leave
-abbrev combining : ℕ → Component → ℕ → ℕ → Nature → Nature → Result Nature
-combining limit c type columns l r = ruled (ruleFor c type l) (λ rule. limited limit (combined eqZ rule columns (wholeListsOf l) (wholeListsOf r)))
-
 module _ (l r : Nature) where
-  pub pair-fails : {k : ℕ} → k ≡ firstFailing (bothListChecks l r) → (k ≡ 0 → ⊥) → (limit : ℕ) (c : Component) (type columns : ℕ) → listsPair limit c type columns l r ≡ refused k
+  pub pair-fails : {k : ℕ} → k ≡ firstFailing (bothListChecks l r) → (k ≡ 0 → ⊥) → (F : Form) (c : Component) (type columns : ℕ) → listsPair F c type columns l r ≡ refused k
   unfolding listsPair
-  pair-fails {k} e h limit c type columns = checked-refuses (combining limit c type columns l r) (bothListChecks l r) (sym e) (ne-eqb k 0 h)
+  pair-fails {k} e h F c type columns = checked-refuses (combinedNature F c type columns l r) (bothListChecks l r) (sym e) (ne-eqb k 0 h)
 
   pub union-fails : {k : ℕ} → k ≡ firstFailing (bothListChecks l r) → (k ≡ 0 → ⊥) → (columns : ℕ) → listsUnited columns l r ≡ refused k
   unfolding listsUnited
   union-fails {k} e h columns = checked-refuses (unitedNature columns l r) (bothListChecks l r) (sym e) (ne-eqb k 0 h)
 
   module _ (e : firstFailing (bothListChecks l r) ≡ 0) where
-    pair-joins : (limit : ℕ) (c : Component) (type columns : ℕ) → listsPair limit c type columns l r ≡ combining limit c type columns l r
+    pub pair-joins : (F : Form) (c : Component) (type columns : ℕ) → listsPair F c type columns l r ≡ combinedNature F c type columns l r
     unfolding listsPair
-    pair-joins limit c type columns = checked-passes (combining limit c type columns l r) (bothListChecks l r) (both-numbered l r) e
+    pair-joins F c type columns = checked-passes (combinedNature F c type columns l r) (bothListChecks l r) (both-numbered l r) e
 
     pub union-joins : (columns : ℕ) → listsUnited columns l r ≡ unitedNature columns l r
     unfolding listsUnited
     union-joins columns = checked-passes (unitedNature columns l r) (bothListChecks l r) (both-numbered l r) e
 
-module _ (limit : ℕ) (c : Component) (type columns : ℕ) where
+module _ (c : Component) (type columns : ℕ) where
   module _ (F : Form) (left right : List ℕ) (z : firstFailing (bothListChecks (natureIn F left) (natureIn F right)) ≡ 0) where
     abbrev pair : Result Nature
-    pair = listsPair limit c type columns (natureIn F left) (natureIn F right)
+    pair = listsPair F c type columns (natureIn F left) (natureIn F right)
 
-    pub bool-pair : byteAt F natureAt left ≡ 4 → pair ≡ refused 22
-    bool-pair e = pair-joins (natureIn F left) (natureIn F right) z limit c type columns ∙ ap (λ (k : Nature). combining limit c type columns k (natureIn F right)) (nature-bool-lists F left e)
+    -- by left's nature
+    opened : {l : Nature} → natureIn F left ≡ l → pair ≡ combinedNature F c type columns l (natureIn F right)
+    opened e = pair-joins (natureIn F left) (natureIn F right) z F c type columns ∙ ap (λ (k : Nature). combinedNature F c type columns k (natureIn F right)) e
+
+    -- there is no rule for bool categories
+    pub other-pair : Joint F left right → (byteAt F natureAt left ≡ 6 → ⊥) → (byteAt F natureAt left ≡ 3 → ⊥) → pair ≡ refused 22
+    other-pair a text other =
+        ⊎-elim (λ e. absurd (other e)) (λ h. ⊎-elim (λ e. opened (nature-bool-lists F left e)) (λ e. absurd (text e)) h) (kinds (a .left-fine))
 
     module _ (a : Joint F left right) (e : byteAt F natureAt left ≡ 3) where
       abbrev paired-by : Option (ℤ → ℤ → Result ℤ) → Result Nature
-      paired-by o = ruled o (λ rule. limited limit (combined eqZ rule columns (lists F left asWhole) (lists F right asWhole)))
+      paired-by o = ruled o (λ rule. limited (F .categoryLimit) (combined eqZ rule columns (lists F left asWhole) (lists F right asWhole)))
 
       whole-pair : pair ≡ paired-by (categoryRule c type)
       whole-pair =
-          pair-joins (natureIn F left) (natureIn F right) z limit c type columns
-          ∙ ap₂ (λ (x y : Nature). combining limit c type columns x y) (nature-whole-lists F left e) (nature-whole-lists F right (sym (a .same) ∙ e))
+          pair-joins (natureIn F left) (natureIn F right) z F c type columns
+          ∙ ap₂ (λ (x y : Nature). combinedNature F c type columns x y) (nature-whole-lists F left e) (nature-whole-lists F right (sym (a .same) ∙ e))
 
       pub no-rule : Reached F c type right → hasRule (familyOf c) ≡ false → pair ≡ refused 22
       no-rule reached n =
@@ -203,11 +208,12 @@ module _ (limit : ℕ) (c : Component) (type columns : ℕ) where
           (λ h. absurd (yes-no (sym h ∙ a .right-fine .lists .no-range)))
           reached
 
-      pub pair-ruled : hasRule (familyOf c) ≡ true → pair ≡ limited limit (combined eqZ (ruleOf c) columns (lists F left asWhole) (lists F right asWhole))
+      pub pair-ruled : hasRule (familyOf c) ≡ true → pair ≡ limited (F .categoryLimit) (combined eqZ (ruleOf c) columns (lists F left asWhole) (lists F right asWhole))
       pair-ruled h = whole-pair ∙ ap (λ (o : Option (ℤ → ℤ → Result ℤ)). paired-by o) (rule-some c type h)
 
-  -- ---- one operand
+-- ---- one operand
 
+module _ (limit : ℕ) (c : Component) (type columns : ℕ) where
   abbrev mapping : Nature → Result Nature
   mapping l = ruled (ruleFor c type l) (λ rule. limited limit (mapped eqZ rule columns (wholeListsOf l)))
 
@@ -221,8 +227,17 @@ module _ (limit : ℕ) (c : Component) (type columns : ℕ) where
       unfolding listsAlone
       alone-opened = checked-passes (mapping (natureIn F s)) (listChecks (natureIn F s)) (list-numbered (natureIn F s)) z
 
-      pub bool-alone : byteAt F natureAt s ≡ 4 → listsAlone limit c type columns (natureIn F s) ≡ refused 22
-      bool-alone e = alone-opened ∙ ap (λ (k : Nature). mapping k) (nature-bool-lists F s e)
+      -- there is no rule for bool categories and texts
+      pub other-alone : Fine F s → (byteAt F natureAt s ≡ 3 → ⊥) → listsAlone limit c type columns (natureIn F s) ≡ refused 22
+      other-alone f other =
+          ⊎-elim
+          (λ e. absurd (other e))
+          (λ h.
+          ⊎-elim
+          (λ e. alone-opened ∙ ap (λ (k : Nature). mapping k) (nature-bool-lists F s e))
+          (λ e. alone-opened ∙ ap (λ (k : Nature). mapping k) (nature-text-lists F s e))
+          h)
+          (kinds f)
 
       pub alone-ruled : byteAt F natureAt s ≡ 3 → hasRule (familyOf c) ≡ true → listsAlone limit c type columns (natureIn F s) ≡ limited limit (mapped eqZ (ruleOf c) columns (lists F s asWhole))
       alone-ruled e h =

@@ -4,27 +4,25 @@
 --     alone-absent, alone-range, alone-lists    of one
 -- Assumes nothing.
 use mathlib.Core.Path.{_≡_, refl, sym, ap, subst, _∙_}
-use mathlib.Core.Bool.{Bool, true, false, _&&_, _||_}
+use mathlib.Core.Bool.{Bool, true, false, _||_}
 use mathlib.Core.List.{List}
 use Prim.Native.Nat.{ℕ, zero, suc, _≤_}
 use native.Mathlib.Omega.{arith}
 use lib.IntN.{ℤ}
 use lib.Ieee.{Float}
-use lib.Dec.{T, eqb, leb}
-use borrow.Author.Tests.{leb-true, eqb-true}
+use lib.Dec.{T, eqb}
+use borrow.Author.Tests.{eqb-true}
 use Rattle.numbers.specs.Result.{Result, ok, refused}
 use Rattle.numbers.specs.Kind.{Span, whole, float}
-use Rattle.base.specs.Form.{Form, byteAt, natureAt, typeAt, nullityAt, releasableAt, notEmptyAt, orderedAt, reservedAt, reservedCount, lastNature, lastType, isRangeNature, listCount}
-use Rattle.base.specs.Sheet.{Nature, absent, wholeRange, floatRange, wholeLists, boolLists, floatLists}
-use Rattle.base.specs.Decode.{asWhole, asFloat, asBits, natureIn, entries}
+use Rattle.base.specs.Form.{Form, byteAt, natureAt, isRangeNature, listCount}
+use Rattle.base.specs.Sheet.{Nature, absent, wholeRange, floatRange, wholeLists, boolLists, floatLists, textLists}
+use Rattle.base.specs.Decode.{asWhole, asFloat, asBits, textIn, natureIn, entries}
 use Rattle.base.specs.Encode.{natureNumber, entryCount}
-use Rattle.base.specs.Checks.{bytesPermitted, flagPermitted, gapPermitted, holdsFrom}
 use Rattle.base.specs.Components.{familyOf}
 use Rattle.base.specs.declared.Component.{Component}
 use Rattle.base.specs.declared.Component.the-variants as C
-use Rattle.base.proofs.Flags.{and-both}
-use Rattle.base.proofs.Permitted.{permitted}
-use Rattle.base.proofs.Natures.{nature-absent, nature-whole-range, nature-float-range, nature-whole-lists, nature-bool-lists, nature-float-lists}
+use Rattle.base.proofs.Permitted.{permitted, nature-within}
+use Rattle.base.proofs.Natures.{nature-absent, nature-whole-range, nature-float-range, nature-whole-lists, nature-bool-lists, nature-float-lists, nature-text-lists}
 use Rattle.ends.specs.Ends.{endRule}
 use Rattle.ends.specs.Ranges.{wholeRule, rangeNature}
 use Rattle.ranges.proofs.Alone.{alone-is}
@@ -47,49 +45,31 @@ range-whole k y e = go (eqb k 1) refl (rw e at y)
 -- ---- a sheet's nature
 
 module _ (F : Form) (s : List ℕ) where
-  nature-first : bytesPermitted F s ≡ true → byteAt F natureAt s ≤ 5
-  unfolding bytesPermitted
-  nature-first e =
-      let n = leb (byteAt F natureAt s) lastNature in
-      let t = leb (byteAt F typeAt s) lastType in
-      let u = flagPermitted F s nullityAt in
-      let v = flagPermitted F s releasableAt in
-      let w = flagPermitted F s notEmptyAt in
-      let o = flagPermitted F s orderedAt in
-      let z = holdsFrom reservedCount reservedAt (λ k. eqb (byteAt F k s) 0) in
-      let six = and-both (n && t && u && v && w && o && z) (gapPermitted F s) e .0 in
-      let five = and-both (n && t && u && v && w && o) z six .0 in
-      let four = and-both (n && t && u && v && w) o five .0 in
-      let three = and-both (n && t && u && v) w four .0 in
-      let two = and-both (n && t && u) v three .0 in
-      leb-true (byteAt F natureAt s) 5 (and-both n t (and-both (n && t) u two .0) .0)
-
-  pub nature-within : Read F s → byteAt F natureAt s ≤ 5
-  nature-within r = nature-first (permitted F s (r .fields) .bytes)
-
-  numbered : (k : ℕ) → k ≤ 5 → byteAt F natureAt s ≡ k → natureNumber (natureIn F s) ≡ k
+  numbered : (k : ℕ) → k ≤ 6 → byteAt F natureAt s ≡ k → natureNumber (natureIn F s) ≡ k
   numbered zero h e = ap natureNumber (nature-absent F s e)
   numbered (suc zero) h e = ap natureNumber (nature-whole-range F s e)
   numbered (suc (suc zero)) h e = ap natureNumber (nature-float-range F s e)
   numbered (suc (suc (suc zero))) h e = ap natureNumber (nature-whole-lists F s e)
   numbered (suc (suc (suc (suc zero)))) h e = ap natureNumber (nature-bool-lists F s e)
   numbered (suc (suc (suc (suc (suc zero))))) h e = ap natureNumber (nature-float-lists F s e)
-  numbered (suc (suc (suc (suc (suc (suc k)))))) h e = absurd (omega arith)
+  numbered (suc (suc (suc (suc (suc (suc zero)))))) h e = ap natureNumber (nature-text-lists F s e)
+  numbered (suc (suc (suc (suc (suc (suc (suc k))))))) h e = absurd (omega arith)
 
   pub number-of : Read F s → natureNumber (natureIn F s) ≡ byteAt F natureAt s
-  number-of r = numbered (byteAt F natureAt s) (nature-within r) refl
+  number-of r = numbered (byteAt F natureAt s) (nature-within F s (permitted F s (r .fields))) refl
 
-  entered : (k : ℕ) → k ≤ 5 → eqb k 0 ≡ false → isRangeNature k ≡ false → byteAt F natureAt s ≡ k → entryCount (natureIn F s) ≡ listCount F s
+  entered : (k : ℕ) → k ≤ 6 → eqb k 0 ≡ false → isRangeNature k ≡ false → byteAt F natureAt s ≡ k → entryCount (natureIn F s) ≡ listCount F s
   entered zero h p n e = absurd (yes-no p)
   entered (suc zero) h p n e = absurd (yes-no n)
   entered (suc (suc zero)) h p n e = absurd (yes-no n)
   entered (suc (suc (suc zero))) h p n e = ap entryCount (nature-whole-lists F s e) ∙ lists-length F s asWhole
   entered (suc (suc (suc (suc zero)))) h p n e = ap entryCount (nature-bool-lists F s e) ∙ lists-length F s asBits
   entered (suc (suc (suc (suc (suc zero))))) h p n e = ap entryCount (nature-float-lists F s e) ∙ lists-length F s asBits
-  entered (suc (suc (suc (suc (suc (suc k)))))) h p n e = absurd (omega arith)
+  entered (suc (suc (suc (suc (suc (suc zero)))))) h p n e = ap entryCount (nature-text-lists F s e) ∙ lists-length F s (textIn F s)
+  entered (suc (suc (suc (suc (suc (suc (suc k))))))) h p n e = absurd (omega arith)
 
   pub count-of : Lists F s → entryCount (natureIn F s) ≡ listCount F s
-  count-of l = entered (byteAt F natureAt s) (nature-within (l .read)) (l .present) (l .no-range) refl
+  count-of l = entered (byteAt F natureAt s) (nature-within F s (permitted F s (l .read .fields))) (l .present) (l .no-range) refl
 
 -- ---- by numbers alone
 
@@ -100,6 +80,7 @@ is-absent (floatRange rs) e = absurd (omega arith)
 is-absent (wholeLists ls) e = absurd (omega arith)
 is-absent (boolLists ls) e = absurd (omega arith)
 is-absent (floatLists ls) e = absurd (omega arith)
+is-absent (textLists ls) e = absurd (omega arith)
 
 module _ (c : Component) (type columns : ℕ) (together : Nature → Nature → Result Nature) where
   pub absent-left : (l r : Nature) → natureNumber l ≡ 0 → twoNatures c type columns together l r ≡ ok absent
@@ -114,6 +95,7 @@ module _ (c : Component) (type columns : ℕ) (together : Nature → Nature → 
   with-absent (wholeLists ls) = refl
   with-absent (boolLists ls) = refl
   with-absent (floatLists ls) = refl
+  with-absent (textLists ls) = refl
 
   pub absent-right : (l r : Nature) → natureNumber r ≡ 0 → twoNatures c type columns together l r ≡ ok absent
   absent-right l r e = ap (λ (k : Nature). twoNatures c type columns together l k) (is-absent r e) ∙ with-absent l
@@ -127,6 +109,7 @@ module _ (c : Component) (type columns : ℕ) (together : Nature → Nature → 
   whole-without xs (wholeLists ls) e = refl
   whole-without xs (boolLists ls) e = refl
   whole-without xs (floatLists ls) e = refl
+  whole-without xs (textLists ls) e = refl
 
   float-without : (xs : List (Span Float)) (r : Nature) → isRangeNature (natureNumber r) ≡ false → floatRangeWith c type columns together xs r ≡ ok absent
   unfolding floatRangeWith
@@ -136,6 +119,7 @@ module _ (c : Component) (type columns : ℕ) (together : Nature → Nature → 
   float-without xs (wholeLists ls) e = refl
   float-without xs (boolLists ls) e = refl
   float-without xs (floatLists ls) e = refl
+  float-without xs (textLists ls) e = refl
 
   pub range-with-lists : (l r : Nature) → isRangeNature (natureNumber l) ≡ true → isRangeNature (natureNumber r) ≡ false → twoNatures c type columns together l r ≡ ok absent
   unfolding twoNatures
@@ -145,6 +129,7 @@ module _ (c : Component) (type columns : ℕ) (together : Nature → Nature → 
   range-with-lists (wholeLists ls) r y n = absurd (yes-no (sym y))
   range-with-lists (boolLists ls) r y n = absurd (yes-no (sym y))
   range-with-lists (floatLists ls) r y n = absurd (yes-no (sym y))
+  range-with-lists (textLists ls) r y n = absurd (yes-no (sym y))
 
   -- lists with a range, and with lists
   lists-ranged : (l r : Nature) → isRangeNature (natureNumber r) ≡ true → listsWith c type columns together l r ≡ ok absent
@@ -155,6 +140,7 @@ module _ (c : Component) (type columns : ℕ) (together : Nature → Nature → 
   lists-ranged l (wholeLists ls) e = absurd (yes-no (sym e))
   lists-ranged l (boolLists ls) e = absurd (yes-no (sym e))
   lists-ranged l (floatLists ls) e = absurd (yes-no (sym e))
+  lists-ranged l (textLists ls) e = absurd (yes-no (sym e))
 
   pub lists-with-range : (l r : Nature) → isRangeNature (natureNumber l) ≡ false → isRangeNature (natureNumber r) ≡ true → twoNatures c type columns together l r ≡ ok absent
   unfolding twoNatures
@@ -164,6 +150,7 @@ module _ (c : Component) (type columns : ℕ) (together : Nature → Nature → 
   lists-with-range (wholeLists ls) r n y = lists-ranged (wholeLists ls) r y
   lists-with-range (boolLists ls) r n y = lists-ranged (boolLists ls) r y
   lists-with-range (floatLists ls) r n y = lists-ranged (floatLists ls) r y
+  lists-with-range (textLists ls) r n y = lists-ranged (textLists ls) r y
 
   lists-listed : (l r : Nature) → (natureNumber r ≡ 0 → ⊥) → isRangeNature (natureNumber r) ≡ false → listsWith c type columns together l r ≡ together l r
   unfolding listsWith
@@ -173,6 +160,7 @@ module _ (c : Component) (type columns : ℕ) (together : Nature → Nature → 
   lists-listed l (wholeLists ls) p n = refl
   lists-listed l (boolLists ls) p n = refl
   lists-listed l (floatLists ls) p n = refl
+  lists-listed l (textLists ls) p n = refl
 
   pub both-lists : (l r : Nature) → (natureNumber l ≡ 0 → ⊥) → isRangeNature (natureNumber l) ≡ false → (natureNumber r ≡ 0 → ⊥) → isRangeNature (natureNumber r) ≡ false
       → twoNatures c type columns together l r ≡ together l r
@@ -183,6 +171,7 @@ module _ (c : Component) (type columns : ℕ) (together : Nature → Nature → 
   both-lists (wholeLists ls) r p n q m = lists-listed (wholeLists ls) r q m
   both-lists (boolLists ls) r p n q m = lists-listed (boolLists ls) r q m
   both-lists (floatLists ls) r p n q m = lists-listed (floatLists ls) r q m
+  both-lists (textLists ls) r p n q m = lists-listed (textLists ls) r q m
 
   -- one range whole, the other float
   whole-other : (xs : List (Span ℤ)) (r : Nature) → isRangeNature (natureNumber r) ≡ true → (1 ≡ natureNumber r → ⊥) → wholeRangeWith c type columns together xs r ≡ refused 17
@@ -193,6 +182,7 @@ module _ (c : Component) (type columns : ℕ) (together : Nature → Nature → 
   whole-other xs (wholeLists ls) y d = absurd (yes-no (sym y))
   whole-other xs (boolLists ls) y d = absurd (yes-no (sym y))
   whole-other xs (floatLists ls) y d = absurd (yes-no (sym y))
+  whole-other xs (textLists ls) y d = absurd (yes-no (sym y))
 
   float-other : (xs : List (Span Float)) (r : Nature) → isRangeNature (natureNumber r) ≡ true → (2 ≡ natureNumber r → ⊥) → floatRangeWith c type columns together xs r ≡ refused 17
   unfolding floatRangeWith
@@ -202,6 +192,7 @@ module _ (c : Component) (type columns : ℕ) (together : Nature → Nature → 
   float-other xs (wholeLists ls) y d = absurd (yes-no (sym y))
   float-other xs (boolLists ls) y d = absurd (yes-no (sym y))
   float-other xs (floatLists ls) y d = absurd (yes-no (sym y))
+  float-other xs (textLists ls) y d = absurd (yes-no (sym y))
 
   pub unequal-ranges : (l r : Nature) → isRangeNature (natureNumber l) ≡ true → isRangeNature (natureNumber r) ≡ true → (natureNumber l ≡ natureNumber r → ⊥)
       → twoNatures c type columns together l r ≡ refused 17
@@ -212,6 +203,7 @@ module _ (c : Component) (type columns : ℕ) (together : Nature → Nature → 
   unequal-ranges (wholeLists ls) r x y d = absurd (yes-no (sym x))
   unequal-ranges (boolLists ls) r x y d = absurd (yes-no (sym x))
   unequal-ranges (floatLists ls) r x y d = absurd (yes-no (sym x))
+  unequal-ranges (textLists ls) r x y d = absurd (yes-no (sym x))
 
   -- two ranges of one kind, of two sheets
   module _ (F : Form) (left right : List ℕ) where
@@ -252,6 +244,7 @@ module _ (limit : ℕ) (c : Component) (type columns : ℕ) where
   alone-lists (wholeLists ls) p n = refl
   alone-lists (boolLists ls) p n = refl
   alone-lists (floatLists ls) p n = refl
+  alone-lists (textLists ls) p n = refl
 
 -- Modulo alone has another rule for whole ranges than its end rule
 ruled-whole : (c : Component) (type : ℕ) → hasRule (familyOf c) ≡ true → wholeRule c type ≡ endRule whole c

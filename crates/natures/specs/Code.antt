@@ -8,6 +8,7 @@ use lib.Dec.{eqb}
 use Rattle.base.specs.Form.{Form, byteAt, natureAt, absentNature, isRangeNature}
 use Rattle.base.specs.Components.{familyOf}
 use Rattle.base.specs.declared.Component.{Component}
+use Rattle.base.specs.declared.Component.the-variants as C
 use Rattle.base.specs.declared.Family.{Family}
 use Rattle.base.specs.declared.Family.the-variants as Fam
 use Rattle.orders.specs.Parts.{isIntCopy}
@@ -29,3 +30,16 @@ hasRule Fam.Unary = true
 hasRule Fam.Pair = true
 hasRule Fam.Copy = false
 hasRule Fam.Pool = false
+
+-- the components that have a rule for texts: 02, S-2: "Add joins left text and right text"
+abbrev pub joins : Component → Bool
+joins C.Abs = false
+joins C.Add = true
+joins C.Subtract = false
+joins C.Multiply = false
+joins C.Divide = false
+joins C.Modulo = false
+joins C.Log = false
+joins C.Power = false
+joins C.Negative = false
+joins C.Pool = false

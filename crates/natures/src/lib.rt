@@ -1,4 +1,4 @@
-// `propagate_unary_nature` and `propagate_binary_nature`: 17 to 26, and the nature derived, its arrays at the start of two lent buffers.
+// `propagate_unary_nature` and `propagate_binary_nature`: 17 to 26 and 28, and the nature derived, its arrays at the start of two lent buffers.
 use base::Component;
 use base::Family;
 use base::form;
@@ -7,7 +7,7 @@ use base::refusals;
 use writer::Derived;
 use writer::Parts;
 ghost use mathlib.Core.Path.{_≡_};
-ghost use mathlib.Core.Bool.{false};
+ghost use mathlib.Core.Bool.{true, false};
 ghost use mathlib.Core.List.{List, [], _∷_};
 ghost use Prim.Native.Nat.{ℕ};
 ghost use lib.Dec.{eqb};
@@ -18,9 +18,11 @@ ghost use Rattle.base.specs.Components.{familyOf, isUnary};
 ghost use Rattle.base.specs.declared.Family.the-variants as Fam;
 ghost use Rattle.base.specs.Decode.{natureIn};
 ghost use Rattle.writer.specs.Written.{inWriting, derivedIn, Within};
-ghost use Rattle.calls.specs.Natures.{bothListChecks, listsPair, listsAlone, unaryNature, binaryNature};
-ghost use Rattle.lending.specs.Code.{Read, Ready, Lent, arraysRoom};
-ghost use Rattle.natures.specs.Code.{Reached, Lists, hasRule};
+ghost use Rattle.calls.specs.Natures.{bothListChecks, combinedNature, listsPair, listsAlone, unaryNature, binaryNature};
+ghost use Rattle.lending.specs.Code.{Read, Ready, Lent, arraysRoom, natureRoom};
+ghost use Rattle.category_lists.specs.Answers.{TextStores};
+ghost use Rattle.text_lists.specs.Codes.{Joining};
+ghost use Rattle.natures.specs.Code.{Reached, Lists, hasRule, joins};
 
 // An absent nature, which has no arrays.
 fn nothing_stated(f: Form) -> Derived
@@ -30,6 +32,7 @@ fn nothing_stated(f: Form) -> Derived
         nature: form::ABSENT_NATURE,
         entries: 0,
         values: 0,
+        text: 0,
         first: 0,
         second: 0,
     })
@@ -84,6 +87,47 @@ pub fn both_lists_code(f: Form, left: &[u8], right: &[u8]) -> u32
     0
 }
 
+// Whether the component has a rule for texts.
+fn joins(c: Component) -> bool
+    ensures { λ r. ⌜ r ≡ joins c ⌝ }
+{
+    match c {
+        Component::Abs => false,
+        Component::Add => true,
+        Component::Subtract => false,
+        Component::Multiply => false,
+        Component::Divide => false,
+        Component::Modulo => false,
+        Component::Log => false,
+        Component::Power => false,
+        Component::Negative => false,
+        Component::Pool => false,
+    }
+}
+
+// Two operands of text that 19 to 21 passed: 22, then their texts joined.
+fn joined_texts(
+    f: Form,
+    c: Component,
+    data_type: u8,
+    columns: usize,
+    left: &[u8],
+    right: &[u8],
+    us: &mut [i64],
+    bs: &mut [i64],
+    store: &mut [i64],
+    first: &mut [u8],
+    second: &mut [u8],
+) -> Derived
+    requires { ⌜ Joining (formOf f) (now left) (now right) × Ready (formOf f) columns (now first) (now second) × (joins c ≡ true → TextStores (formOf f) (now us) (now bs) (now store) (now first) (now second)) ⌝ }
+    ensures { λ r. ⌜ (derivedIn r (now (first .exit)) (now (second .exit)) ≡ inWriting (formOf f) (combinedNature (formOf f) c data_type columns (natureIn (formOf f) (now (left .entry))) (natureIn (formOf f) (now (right .entry))))) × Within (formOf f) (natureRoom (familyOf c) (formOf f) (now (left .entry)) (now (right .entry))) (now (first .exit)) (now (second .exit)) r ⌝ }
+{
+    if !joins(c) {
+        return Derived::Refused(refusals::NO_RULE);
+    }
+    text_lists::texts_together(f, true, columns, left, right, us, bs, store, first, second)
+}
+
 // Two category operands: 19 to 22, then the product.
 fn propagate_binary_categorical_nature(
     f: Form,
@@ -101,13 +145,29 @@ fn propagate_binary_categorical_nature(
 ) -> Derived
     requires { ⌜ Lists (formOf f) (now left) × Lists (formOf f) (now right) × Ready (formOf f) columns (now first) (now second) × Reached (formOf f) c data_type (now right) × (isUnary (familyOf c) ≡ false) ⌝ }
     requires { ⌜ Lent (familyOf c) (formOf f) (now left) (now right) (now us) (now bs) (now store) (now hints) (now first) (now second) ⌝ }
-    ensures { λ r. ⌜ (derivedIn r (now (first .exit)) (now (second .exit)) ≡ inWriting (formOf f) (listsPair (formOf f .categoryLimit) c data_type columns (natureIn (formOf f) (now (left .entry))) (natureIn (formOf f) (now (right .entry))))) × Within (formOf f) (arraysRoom (familyOf c) (formOf f) (now (left .entry)) (now (right .entry))) (now (first .exit)) (now (second .exit)) r ⌝ }
+    ensures { λ r. ⌜ (derivedIn r (now (first .exit)) (now (second .exit)) ≡ inWriting (formOf f) (listsPair (formOf f) c data_type columns (natureIn (formOf f) (now (left .entry))) (natureIn (formOf f) (now (right .entry))))) × Within (formOf f) (natureRoom (familyOf c) (formOf f) (now (left .entry)) (now (right .entry))) (now (first .exit)) (now (second .exit)) r ⌝ }
 {
     let k = both_lists_code(f, left, right);
     if k != 0 {
         return Derived::Refused(k);
     }
-    if base::nature_of(f, left) == form::BOOL_LISTS {
+    let x = base::nature_of(f, left);
+    if x == form::TEXT_LISTS {
+        return joined_texts(
+            f,
+            c,
+            data_type,
+            columns,
+            left,
+            right,
+            us,
+            bs,
+            store,
+            first,
+            second,
+        );
+    }
+    if x != form::WHOLE_LISTS {
         return Derived::Refused(refusals::NO_RULE);
     }
     if !has_rule(c) {
@@ -151,7 +211,7 @@ fn propagate_unary_categorical_nature(
     if k != 0 {
         return Derived::Refused(k);
     }
-    if x == form::BOOL_LISTS {
+    if x != form::WHOLE_LISTS {
         return Derived::Refused(refusals::NO_RULE);
     }
     category_maps::lists_alone(f, c, columns, s, us, store, hints, first, second)
@@ -173,7 +233,7 @@ pub fn propagate_binary_nature(
 ) -> Derived
     requires { ⌜ Read (formOf f) (now left) × Read (formOf f) (now right) × Ready (formOf f) columns (now first) (now second) × Reached (formOf f) c data_type (now right) × (isUnary (familyOf c) ≡ false) ⌝ }
     requires { ⌜ Lent (familyOf c) (formOf f) (now left) (now right) (now us) (now bs) (now store) (now hints) (now first) (now second) ⌝ }
-    ensures { λ r. ⌜ (derivedIn r (now (first .exit)) (now (second .exit)) ≡ inWriting (formOf f) (binaryNature (formOf f .categoryLimit) c data_type columns (natureIn (formOf f) (now (left .entry))) (natureIn (formOf f) (now (right .entry))))) × Within (formOf f) (arraysRoom (familyOf c) (formOf f) (now (left .entry)) (now (right .entry))) (now (first .exit)) (now (second .exit)) r ⌝ }
+    ensures { λ r. ⌜ (derivedIn r (now (first .exit)) (now (second .exit)) ≡ inWriting (formOf f) (binaryNature (formOf f) c data_type columns (natureIn (formOf f) (now (left .entry))) (natureIn (formOf f) (now (right .entry))))) × Within (formOf f) (natureRoom (familyOf c) (formOf f) (now (left .entry)) (now (right .entry))) (now (first .exit)) (now (second .exit)) r ⌝ }
 {
     let x = base::nature_of(f, left);
     let y = base::nature_of(f, right);

@@ -55,7 +55,7 @@ module _ (l r : Sheet) where
       ∷ check 14 (not (eqb (l .fields .dataType) (r .fields .dataType)))
       ∷ []
 
-  -- 01: "Components 2 to 5 check in list order"; 17 to 26 follow
+  -- 01: "Components 2 to 5 check in list order"; 17 to 26 follow, and 28
   abbrev pub pairChecks : List Check
   pairChecks =
       operandChecks (l .fields)
@@ -70,7 +70,7 @@ module _ (l r : Sheet) where
       ∷ check 14 (not (eqb (l .fields .dataType) (r .fields .dataType)))
       ∷ []
 
-  -- 02, S-1: "It checks 6, 7, 8, 11, 12 .., 14 .., then 17 to 21, 24, 26"
+  -- 02, S-1: "It checks 6, 7, 8, 11, 12 .., 14 .., then 17 to 21, 24, 26"; S-2: 28 "directly after 26"
   abbrev pub poolChecks : List Check
   poolChecks =
       operandChecks (l .fields)

@@ -23,8 +23,8 @@ use Rattle.base.proofs.Holding.{holds-within}
 use Rattle.plan_form.specs.Form.{nodeLimit, stepsAt, nodeCount, leafCount, stepCount, componentNumber, leftOf, rightOf, stepPermitted, planFails}
 use Rattle.plan_form.specs.Code.{StepOf}
 
--- 01: "The longest sheet is 1,284 bytes", and "slots of 1,284 bytes"
-pub longest-is : longest narrow ≡ 1284
+-- 02, S-2: "Slots and the longest sheet become 2,308 bytes"
+pub longest-is : longest narrow ≡ 2308
 longest-is = refl
 
 -- whether node k is a permitted step

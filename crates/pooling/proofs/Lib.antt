@@ -1,3 +1,3 @@
 -- What the proofs of several functions cite.
-pub mod Natures
+pub mod Early
 pub mod Pooled

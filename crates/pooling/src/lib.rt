@@ -13,7 +13,7 @@ ghost use lib.IntN.{pos};
 ghost use lib.ListN.{length};
 ghost use Rattle.numbers.specs.Result.{ok, andThen};
 ghost use Rattle.base.specs.Form.{formOf};
-ghost use Rattle.base.specs.Decode.{decode, natureIn};
+ghost use Rattle.base.specs.Decode.{decode};
 ghost use Rattle.base.specs.Encode.{encode};
 ghost use Rattle.base.specs.Code.{signedOf, headFields};
 ghost use Rattle.base.specs.Components.{familyOf};
@@ -21,11 +21,7 @@ ghost use Rattle.base.specs.declared.Family.the-variants as Fam;
 ghost use Rattle.shape.specs.Shape.{rowsSum};
 ghost use Rattle.shape.specs.Fields.{poolFields, withNode};
 ghost use Rattle.calls.specs.Derive.{derivePool};
-ghost use Rattle.category_lists.specs.Categories.{keptTo};
-ghost use Rattle.calls.specs.Natures.{listsUnited, poolNature};
-ghost use Rattle.lending.specs.Code.{Read, Ready, Lent, Buffers, arraysRoom};
-ghost use Rattle.natures.specs.Code.{Lists};
-ghost use Rattle.writer.specs.Written.{inWriting, derivedIn, Within};
+ghost use Rattle.lending.specs.Code.{Read, Lent, Buffers};
 ghost use Rattle.deliveries.specs.Code.{stepIn, Held};
 ghost use Rattle.pooling.specs.Code.{rowsIn, behindRows};
 
@@ -74,91 +70,18 @@ fn pool_head(rows: OptionI64, l: Head, r: Head) -> Head
     }
 }
 
-// What refuses where the rows leave 64 bits: 24 comes behind 17 to 21 and before 26.
+// What refuses where the rows leave 64 bits: 24 comes behind 17 to 21 and before 26 and 28.
 fn behind_rows(derived: Derived) -> u32
     ensures { λ r. ⌜ r ≡ behindRows derived ⌝ }
 {
     match derived {
-        Derived::Refused(k) => if k == refusals::OVER_THE_LIMIT {
+        Derived::Refused(k) => if (k == refusals::OVER_THE_LIMIT) | (k == refusals::TOO_MUCH_TEXT) {
             refusals::LEAVES_64_BITS
         } else {
             k
         },
         Derived::Nature(_) => refusals::LEAVES_64_BITS,
     }
-}
-
-// Two category operands of Pool: 19 to 21, then left's lists followed by right's.
-fn united_categorical_nature(
-    f: Form,
-    columns: usize,
-    left: &[u8],
-    right: &[u8],
-    us: &mut [i64],
-    bs: &mut [i64],
-    store: &mut [i64],
-    hints: &mut [u8],
-    first: &mut [u8],
-    second: &mut [u8],
-) -> Derived
-    requires { ⌜ Lists (formOf f) (now left) × Lists (formOf f) (now right) × Ready (formOf f) columns (now first) (now second) ⌝ }
-    requires { ⌜ Lent Fam.Pool (formOf f) (now left) (now right) (now us) (now bs) (now store) (now hints) (now first) (now second) ⌝ }
-    ensures { λ r. ⌜ (derivedIn r (now (first .exit)) (now (second .exit)) ≡ inWriting (formOf f) (andThen (listsUnited columns (natureIn (formOf f) (now (left .entry))) (natureIn (formOf f) (now (right .entry)))) (keptTo (formOf f .categoryLimit)))) × Within (formOf f) (arraysRoom Fam.Pool (formOf f) (now (left .entry)) (now (right .entry))) (now (first .exit)) (now (second .exit)) r ⌝ }
-{
-    let k = natures::both_lists_code(f, left, right);
-    if k != 0 {
-        return Derived::Refused(k);
-    }
-    unions::lists_united(f, columns, left, right, us, bs, store, hints, first, second)
-}
-
-// The nature derived of two: their lists united where both hold categories.
-fn pooled_nature(
-    f: Form,
-    c: Component,
-    data_type: u8,
-    columns: usize,
-    left: &[u8],
-    right: &[u8],
-    us: &mut [i64],
-    bs: &mut [i64],
-    store: &mut [i64],
-    hints: &mut [u8],
-    first: &mut [u8],
-    second: &mut [u8],
-) -> Derived
-    requires { ⌜ Read (formOf f) (now left) × Read (formOf f) (now right) × Ready (formOf f) columns (now first) (now second) × (familyOf c ≡ Fam.Pool) ⌝ }
-    requires { ⌜ Lent (familyOf c) (formOf f) (now left) (now right) (now us) (now bs) (now store) (now hints) (now first) (now second) ⌝ }
-    ensures { λ r. ⌜ (derivedIn r (now (first .exit)) (now (second .exit)) ≡ inWriting (formOf f) (andThen (poolNature c data_type columns (natureIn (formOf f) (now (left .entry))) (natureIn (formOf f) (now (right .entry)))) (keptTo (formOf f .categoryLimit)))) × Within (formOf f) (arraysRoom (familyOf c) (formOf f) (now (left .entry)) (now (right .entry))) (now (first .exit)) (now (second .exit)) r ⌝ }
-{
-    if lending::holds_categories(f, left) & lending::holds_categories(f, right) {
-        return united_categorical_nature(
-            f,
-            columns,
-            left,
-            right,
-            us,
-            bs,
-            store,
-            hints,
-            first,
-            second,
-        );
-    }
-    natures::propagate_binary_nature(
-        f,
-        c,
-        data_type,
-        columns,
-        left,
-        right,
-        us,
-        bs,
-        store,
-        hints,
-        first,
-        second,
-    )
 }
 
 pub fn step_pool(
@@ -177,7 +100,7 @@ pub fn step_pool(
 ) -> Put
     requires { ⌜ Read (formOf f) (now left) × Read (formOf f) (now right) × (familyOf c ≡ Fam.Pool) ⌝ }
     requires { ⌜ Buffers (familyOf c) (formOf f) (now left) (now right) (now first) (now second) (now out) × Lent (familyOf c) (formOf f) (now left) (now right) (now us) (now bs) (now store) (now hints) (now first) (now second) ⌝ }
-    ensures { λ r. ⌜ (stepIn r (now (out .exit)) ≡ andThen (derivePool (formOf f .categoryLimit) c (decode (formOf f) (now (left .entry))) (decode (formOf f) (now (right .entry)))) (λ s. ok (encode (formOf f) (withNode (pos node) s)))) × Held r (length (now (out .entry))) ⌝ }
+    ensures { λ r. ⌜ (stepIn r (now (out .exit)) ≡ andThen (derivePool (formOf f) c (decode (formOf f) (now (left .entry))) (decode (formOf f) (now (right .entry)))) (λ s. ok (encode (formOf f) (withNode (pos node) s)))) × Held r (length (now (out .entry))) ⌝ }
 {
     let l = base::read_head(f, left);
     let r = base::read_head(f, right);
@@ -186,7 +109,7 @@ pub fn step_pool(
         return Put::Refused(k);
     }
     let columns = shape::widest(l, r) as usize;
-    let derived = pooled_nature(
+    let derived = pool_nature::pooled_nature(
         f,
         c,
         l.data_type,

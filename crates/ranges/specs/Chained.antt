@@ -42,7 +42,7 @@ rangeNumber float = cond float floatRangeNature wholeRangeNature
 
 -- 01: "n lowers and n uppers, each a mark and 64 bits"
 abbrev pub rangeParts : Bool → ℕ → Parts
-rangeParts float n = record { nature = rangeNumber float; entries = n; values = 0; first = 9 * n; second = 9 * n }
+rangeParts float n = record { nature = rangeNumber float; entries = n; values = 0; text = 0; first = 9 * n; second = 9 * n }
 
 -- the lowers and uppers of k columns, and then those of the rest; a refusal stays one
 unfoldable pub after : ℕ → List ℕ → List ℕ → Result Written → Result Written
@@ -50,6 +50,7 @@ after k ls us (ok w) = ok (record {
   nature = w .nature;
   entries = k + w .entries;
   values = w .values;
+  text = w .text;
   first = ls ++ w .first;
   second = us ++ w .second;
 })
@@ -62,7 +63,7 @@ columnThen (S.Refused k) rest = refused k
 
 -- a range of n columns
 abbrev pub columnsIn : ℕ → ℕ → List ℕ → List ℕ → Written
-columnsIn nature n ls us = record { nature = nature; entries = n; values = 0; first = ls; second = us }
+columnsIn nature n ls us = record { nature = nature; entries = n; values = 0; text = 0; first = ls; second = us }
 
 -- n columns from column j on
 unfoldable pub columnsFrom : ℕ → (ℕ → Ends) → ℕ → ℕ → Result Written

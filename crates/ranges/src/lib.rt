@@ -102,6 +102,7 @@ fn range_parts(float: bool, columns: usize) -> Parts
         nature: range_number(float),
         entries: columns,
         values: 0,
+        text: 0,
         first: length,
         second: length,
     }

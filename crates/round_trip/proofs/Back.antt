@@ -15,13 +15,13 @@ use Rattle.base.specs.Decode.{decode}
 use Rattle.base.specs.Encode.{encode}
 use Rattle.round_trip.specs.WellFormed.{WellFormed}
 use Rattle.round_trip.proofs.Table.{sheet-length}
-use Rattle.round_trip.proofs.Fields.{group-count-back, list-count-back, category-count-back, nature-byte-back, node-back, fields-back, groups-back}
+use Rattle.round_trip.proofs.Fields.{group-count-back, list-count-back, category-count-back, area-size-back, nature-byte-back, node-back, fields-back, groups-back}
 use Rattle.round_trip.proofs.Natures.{arrays-length, nature-back}
 
 module _ {F : Form} (laid : Laid F) {s : Sheet} (fit : WellFormed F s) (rest : List ℕ) where
   pub called-for : lengthCalledFor F (encode F s ++ rest) ≡ length (encode F s)
   called-for =
-      rw (nature-byte-back F laid s fit rest, group-count-back F laid s fit rest, list-count-back F laid s fit rest, category-count-back F laid s fit rest)
+      rw (nature-byte-back F laid s fit rest, group-count-back F laid s fit rest, list-count-back F laid s fit rest, category-count-back F laid s fit rest, area-size-back F laid s fit rest)
       (omega (arith, sheet-length F s, arrays-length F (s .nature)))
 
   pub sheet-back : decode F (encode F s ++ rest) ≡ s

@@ -13,7 +13,7 @@ use borrow.Author.Tests.{leb-true}
 use Rattle.bytes.proofs.Reread.{AllBytes}
 use Rattle.base.specs.Form.{Form, Laid, place, natureAt, rowsAt, groupCount, entriesAt}
 use Rattle.base.specs.Decode.{natureIn, fieldsIn, groupsIn, decode}
-use Rattle.base.specs.Encode.{natureNumber, entryCount, valueCount, sizeBytes, markBytes, encode}
+use Rattle.base.specs.Encode.{natureNumber, entryCount, valueCount, textSize, sizeBytes, markBytes, encode}
 use Rattle.base.specs.Checks.{sizesFail, fieldsFail, boundsFail}
 use Rattle.base.proofs.Passed.{Passed, passed, long-enough, groups-fit}
 use Rattle.base.proofs.Permitted.{permitted}
@@ -39,8 +39,9 @@ module _ {F : Form} (laid : Laid F) (s : List ℕ) (small : AllBytes s) where
       let p = permitted F s fields in
       let c = clean F s p in
       let long = long-enough z in
-      let k = nature-spelled F s small z (p .nature) bounds (leb-true _ _ (c .nature)) in
-      let marks : Filling s (place F natureAt) (place F rowsAt) (markBytes (natureNumber (natureIn F s)) (fieldsIn F s)) = rw (k .number) (marks-fill laid s small long c) in
+      let k = nature-spelled F s small sizes fields bounds (leb-true _ _ (c .nature)) in
+      let marks : Filling s (place F natureAt) (place F rowsAt) (markBytes (natureNumber (natureIn F s)) (textSize (natureIn F s)) (fieldsIn F s)) =
+      rw (k .number, k .area) (marks-fill laid s small long c) in
       let groups = fill-part (13 * groupCount F s) {b = entriesAt F (groupCount F s)} (groups-copied F s small (groups-fit z .room)) refl in
       fill-all ((sizes-fill k long then marks then values-fill laid s small long c then node-fills laid s small long then gap-fills laid s small long c) then groups then k .bytes)
 

@@ -5,10 +5,10 @@ use Prim.Native.Nat.{ℕ, _+_, _*_}
 use native.Mathlib.Omega.{arith}
 use lib.ListN.{length}
 use Rattle.bytes.specs.Le.{leAt, leBytes}
-use Rattle.base.specs.Form.{Form, Laid, groupCount, listCount, categoryCount, place, byteAt, natureAt, typeAt, nullityAt, releasableAt, notEmptyAt, orderedAt, cStabilityAt, aggregatorAt, rowsMarkAt, columnsMarkAt, datasetMarkAt, dimensionalityMarkAt, sampleMarkAt, rowsAt, columnsAt, datasetAt, dimensionalityAt, sampleAt, nodeAt, partitionAt, keyAt}
+use Rattle.base.specs.Form.{Form, Laid, groupCount, listCount, categoryCount, place, byteAt, natureAt, typeAt, nullityAt, releasableAt, notEmptyAt, orderedAt, cStabilityAt, aggregatorAt, rowsMarkAt, columnsMarkAt, datasetMarkAt, dimensionalityMarkAt, sampleMarkAt, areaSizeAt, rowsAt, columnsAt, datasetAt, dimensionalityAt, sampleAt, nodeAt, partitionAt, keyAt, areaSize}
 use Rattle.base.specs.Sheet.{Group, Sheet}
 use Rattle.base.specs.Decode.{asWhole, groupAt, fieldsIn, groupsIn}
-use Rattle.base.specs.Encode.{wholeBits, natureNumber, entryCount, valueCount, encode}
+use Rattle.base.specs.Encode.{wholeBits, natureNumber, entryCount, valueCount, textSize, encode}
 use Rattle.round_trip.specs.WellFormed.{GroupFits, WellFormed}
 use Rattle.round_trip.proofs.Standing.{Standing, standing-left, standing-right, byte-back, number-back}
 use Rattle.round_trip.proofs.Values.{whole, bits, flag-back, value-back, option-back}
@@ -36,11 +36,14 @@ module _ (F : Form) (laid : Laid F) (s : Sheet) (fit : WellFormed F s) (rest : L
   pub category-count-back : categoryCount F (encode F s ++ rest) ≡ valueCount (s .nature)
   category-count-back = number-back (F .sizeWidth) (part-at F s rest 2 (2 * F .sizeWidth) (omega arith)) (fit .valuesCounted)
 
+  pub area-size-back : areaSize F (encode F s ++ rest) ≡ textSize (s .nature)
+  area-size-back = number-back 2 (part-at F s rest 17 (place F areaSizeAt) (omega arith)) (fit .textCounted)
+
   pub nature-byte-back : byteAt F natureAt (encode F s ++ rest) ≡ natureNumber (s .nature)
   nature-byte-back = byte-back (part-at F s rest 3 (place F natureAt) (omega arith))
 
   pub node-back : asWhole (leAt 8 (place F nodeAt) (encode F s ++ rest)) ≡ s .node
-  node-back = value-back whole (s .node) (fit .node) (part-at F s rest 22 (place F nodeAt) (omega arith))
+  node-back = value-back whole (s .node) (fit .node) (part-at F s rest 24 (place F nodeAt) (omega arith))
 
   pub fields-back : fieldsIn F (encode F s ++ rest) ≡ s .fields
   unfolding fieldsIn
@@ -54,11 +57,11 @@ module _ (F : Form) (laid : Laid F) (s : Sheet) (fit : WellFormed F s) (rest : L
       let ordered = flag-back (f .ordered) (part-at F s rest 8 (place F orderedAt) (omega arith)) in
       let stability = number-back 4 (part-at F s rest 9 (place F cStabilityAt) (omega arith)) (fits .cStability) in
       let aggregator = number-back 4 (part-at F s rest 10 (place F aggregatorAt) (omega arith)) (fits .aggregator) in
-      let rows = option-back whole (f .rows) (fits .rows) (part-at F s rest 11 (place F rowsMarkAt) (omega arith)) (part-at F s rest 17 (place F rowsAt) (omega arith)) in
-      let columns = option-back bits (f .columns) (fits .columns) (part-at F s rest 12 (place F columnsMarkAt) (omega arith)) (part-at F s rest 18 (place F columnsAt) (omega arith)) in
-      let dataset = option-back whole (f .dataset) (fits .dataset) (part-at F s rest 13 (place F datasetMarkAt) (omega arith)) (part-at F s rest 19 (place F datasetAt) (omega arith)) in
-      let dimensionality = option-back whole (f .dimensionality) (fits .dimensionality) (part-at F s rest 14 (place F dimensionalityMarkAt) (omega arith)) (part-at F s rest 20 (place F dimensionalityAt) (omega arith)) in
-      let sample = option-back bits (f .sample) (fits .sample) (part-at F s rest 15 (place F sampleMarkAt) (omega arith)) (part-at F s rest 21 (place F sampleAt) (omega arith)) in
+      let rows = option-back whole (f .rows) (fits .rows) (part-at F s rest 11 (place F rowsMarkAt) (omega arith)) (part-at F s rest 19 (place F rowsAt) (omega arith)) in
+      let columns = option-back bits (f .columns) (fits .columns) (part-at F s rest 12 (place F columnsMarkAt) (omega arith)) (part-at F s rest 20 (place F columnsAt) (omega arith)) in
+      let dataset = option-back whole (f .dataset) (fits .dataset) (part-at F s rest 13 (place F datasetMarkAt) (omega arith)) (part-at F s rest 21 (place F datasetAt) (omega arith)) in
+      let dimensionality = option-back whole (f .dimensionality) (fits .dimensionality) (part-at F s rest 14 (place F dimensionalityMarkAt) (omega arith)) (part-at F s rest 22 (place F dimensionalityAt) (omega arith)) in
+      let sample = option-back bits (f .sample) (fits .sample) (part-at F s rest 15 (place F sampleMarkAt) (omega arith)) (part-at F s rest 23 (place F sampleAt) (omega arith)) in
       λ i. record {
         dataType = type i;
         nullity = nullity i;
@@ -81,4 +84,4 @@ module _ (F : Form) (laid : Laid F) (s : Sheet) (fit : WellFormed F s) (rest : L
       let g = length (s .groups) in
       rw group-count-back
       (arrays-back t partitionBytes keyBytes 4 9 (F .arraysAt) (F .arraysAt + 4 * g) (groupAt F t g) partition-sized key-sized
-      (group-back F t g) (s .groups) 0 (fit .groups) (part-at F s rest 24 (partitionAt F 0) (omega arith)) (part-at F s rest 25 (keyAt F g 0) (omega arith)))
+      (group-back F t g) (s .groups) 0 (fit .groups) (part-at F s rest 26 (partitionAt F 0) (omega arith)) (part-at F s rest 27 (keyAt F g 0) (omega arith)))

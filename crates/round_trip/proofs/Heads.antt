@@ -1,11 +1,11 @@
 -- The fields of a sheet that passed 4, written again, are the bytes that they were read from.
 --     Clean          what check 4 says of each field
---     marks-fill     from the nature to the reserved bytes
+--     marks-fill     from the nature to the zero bytes before the values
 --     values-fill    the five values
 --     node-fills     the node number
 --     gap-fills      the bytes behind the last field
 -- Assumes nothing.
-use mathlib.Core.Path.{_≡_, refl}
+use mathlib.Core.Path.{_≡_, refl, sym}
 use mathlib.Core.Bool.{true, _&&_}
 use mathlib.Core.List.{List, [], _∷_}
 use Prim.Native.Nat.{ℕ, _+_, _-_, _≤_, _<_}
@@ -15,7 +15,7 @@ use lib.Dec.{T, eqb, leb, leb→le}
 use borrow.Author.Tests.{eqb-true}
 use Rattle.bytes.specs.Le.{leAt, leBytes}
 use Rattle.bytes.proofs.Reread.{AllBytes}
-use Rattle.base.specs.Form.{Form, Laid, place, byteAt, natureAt, typeAt, nullityAt, releasableAt, notEmptyAt, orderedAt, cStabilityAt, aggregatorAt, rowsMarkAt, columnsMarkAt, datasetMarkAt, dimensionalityMarkAt, sampleMarkAt, reservedAt, reservedCount, rowsAt, columnsAt, datasetAt, dimensionalityAt, sampleAt, nodeAt, fieldsEnd, lastNature, lastType}
+use Rattle.base.specs.Form.{Form, Laid, place, byteAt, natureAt, typeAt, nullityAt, releasableAt, notEmptyAt, orderedAt, cStabilityAt, aggregatorAt, rowsMarkAt, columnsMarkAt, datasetMarkAt, dimensionalityMarkAt, sampleMarkAt, reservedAt, areaSizeAt, laterAt, laterCount, rowsAt, columnsAt, datasetAt, dimensionalityAt, sampleAt, nodeAt, fieldsEnd, areaSize, lastNature, lastType}
 use Rattle.base.specs.Decode.{asWhole, asBits, fieldsIn}
 use Rattle.base.specs.Encode.{wholeBits, markBytes, valueBytes}
 use Rattle.base.specs.Checks.{holdsFrom, flagPermitted, fieldPermitted, columnsPermitted, gapPermitted, bytesPermitted, valuesPermitted}
@@ -33,7 +33,8 @@ pub record Clean (F : Form) (s : List ℕ) : Type 0 where
   pub releasable : flagPermitted F s releasableAt ≡ true
   pub notEmpty : flagPermitted F s notEmptyAt ≡ true
   pub ordered : flagPermitted F s orderedAt ≡ true
-  pub reserved : holdsFrom reservedCount reservedAt (λ k. eqb (byteAt F k s) 0) ≡ true
+  pub reserved : eqb (byteAt F reservedAt s) 0 ≡ true
+  pub later : holdsFrom laterCount laterAt (λ k. eqb (byteAt F k s) 0) ≡ true
   pub gap : gapPermitted F s ≡ true
   pub rows : fieldPermitted F s rowsMarkAt rowsAt ≡ true
   pub columns : fieldPermitted F s columnsMarkAt columnsAt ≡ true
@@ -45,8 +46,9 @@ module _ (F : Form) (s : List ℕ) where
   pub clean : Permitted F s → Clean F s
   unfolding bytesPermitted valuesPermitted
   clean p =
-      let b7 = and-both _ (gapPermitted F s) (p .bytes) in
-      let b6 = and-both _ (holdsFrom reservedCount reservedAt (λ k. eqb (byteAt F k s) 0)) (b7 .0) in
+      let b8 = and-both _ (gapPermitted F s) (p .bytes) in
+      let b7 = and-both _ (holdsFrom laterCount laterAt (λ k. eqb (byteAt F k s) 0)) (b8 .0) in
+      let b6 = and-both _ (eqb (byteAt F reservedAt s) 0) (b7 .0) in
       let b5 = and-both _ (flagPermitted F s orderedAt) (b6 .0) in
       let b4 = and-both _ (flagPermitted F s notEmptyAt) (b5 .0) in
       let b3 = and-both _ (flagPermitted F s releasableAt) (b4 .0) in
@@ -65,7 +67,8 @@ module _ (F : Form) (s : List ℕ) where
         notEmpty = b4 .1;
         ordered = b5 .1;
         reserved = b6 .1;
-        gap = b7 .1;
+        later = b7 .1;
+        gap = b8 .1;
         rows = v1 .0;
         columns = v1 .1;
         dataset = v3 .1;
@@ -89,12 +92,12 @@ module _ {F : Form} (laid : Laid F) (s : List ℕ) (small : AllBytes s) (long : 
   node-fills = number 8 nodeAt tt (whole nodeAt)
 
   module _ (c : Clean F s) where
-    zero-byte : (i : ℕ) → i < reservedCount → getD s (place F reservedAt + i) 0 ≡ 0
+    zero-byte : (i : ℕ) → i < laterCount → getD s (place F laterAt + i) 0 ≡ 0
     zero-byte i h =
-        let at : place F reservedAt + i ≡ place F (reservedAt + i) = omega arith in
-        rw at (eqb-true _ _ (holds-within (λ k. eqb (byteAt F k s) 0) reservedCount reservedAt (reservedAt + i) (c .reserved) (omega arith) (omega arith)))
+        let at : place F laterAt + i ≡ place F (laterAt + i) = omega arith in
+        rw at (eqb-true _ _ (holds-within (λ k. eqb (byteAt F k s) 0) laterCount laterAt (laterAt + i) (c .later) (omega arith) (omega arith)))
 
-    pub marks-fill : Filling s (place F natureAt) (place F rowsAt) (markBytes (byteAt F natureAt s) (fieldsIn F s))
+    pub marks-fill : Filling s (place F natureAt) (place F rowsAt) (markBytes (byteAt F natureAt s) (areaSize F s) (fieldsIn F s))
     unfolding markBytes fieldsIn
     marks-fill =
         byte natureAt tt refl
@@ -110,7 +113,8 @@ module _ {F : Form} (laid : Laid F) (s : List ℕ) (small : AllBytes s) (long : 
         then byte datasetMarkAt tt (mark-same asWhole s _ _ (c .dataset))
         then byte dimensionalityMarkAt tt (mark-same asWhole s _ _ (c .dimensionality))
         then byte sampleMarkAt tt (mark-same asBits s _ _ (c .sample)))
-        then fill-zeros reservedCount zero-byte (omega (arith, laid .arrays)) (omega arith)
+        then (byte reservedAt tt (sym (eqb-true _ _ (c .reserved))) then number 2 areaSizeAt tt refl)
+        then fill-zeros laterCount zero-byte (omega (arith, laid .arrays)) (omega arith)
 
     pub values-fill : Filling s (place F rowsAt) (place F nodeAt) (valueBytes (fieldsIn F s))
     unfolding valueBytes fieldsIn

@@ -3,10 +3,11 @@
 --     lists-order    they are the categories, in order
 --     lists-fill     both arrays
 --     lists-total    how many they are
+--     lists-flat     the values alone
 -- Assumes nothing.
 use mathlib.Core.Path.{_≡_, refl, sym, ap, ap₂, _∙_}
 use mathlib.Core.Bool.{Bool, true, false, _&&_, _||_}
-use mathlib.Core.List.{List, [], _∷_, _++_, append-assoc}
+use mathlib.Core.List.{List, [], _∷_, _++_, map, append-assoc, flatten}
 use Prim.Native.Nat.{ℕ, zero, suc, _+_, _-_, _*_, _≤_, _<_}
 use native.Mathlib.Omega.{arith}
 use lib.Dec.{eqb, ltb, leb}
@@ -16,6 +17,7 @@ use Rattle.bytes.specs.Le.{leAt, leBytes}
 use Rattle.bytes.proofs.Reread.{AllBytes, leBytes-leAt}
 use Rattle.utilities.specs.Lists.{listFrom}
 use Rattle.utilities.proofs.Built.{listFrom-length}
+use Rattle.utilities.proofs.Mapped.{listFrom-map}
 use Rattle.base.specs.Form.{Form, groupCount, listCount, categoryCount, entriesAt, numberAt, valueAt}
 use Rattle.base.specs.Decode.{listNumber, categoryAt, listAt, lists}
 use Rattle.base.specs.Encode.{joined, total, numbersFrom, listsBytes}
@@ -61,6 +63,15 @@ module _ {X : Type 0} where
   unfolding total
   total-order j [] = refl
   total-order j (l ∷ ls) = rw (total-order (j + 1) ls) (length-numbered j l (inOrder (j + 1) ls))
+
+  second-numbered : (j : ℕ) (l : List X) (rest : List (ℕ × X)) → map (λ p. p .1) (numbered j l rest) ≡ l ++ map (λ p. p .1) rest
+  second-numbered j [] rest = refl
+  second-numbered j (x ∷ l) rest = ap (λ (r : List X). x ∷ r) (second-numbered j l rest)
+
+  flat-order : (j : ℕ) (ls : List (List X)) → map (λ p. p .1) (inOrder j ls) ≡ flatten ls
+  unfolding flatten
+  flat-order j [] = refl
+  flat-order j (l ∷ ls) = second-numbered j l (inOrder (j + 1) ls) ∙ ap (λ (r : List X). l ++ r) (flat-order (j + 1) ls)
 
 from-same : {X : Type 0} {f g : ℕ → X} (n j : ℕ) → ((m : ℕ) → j ≤ m → f m ≡ g m) → listFrom n j f ≡ listFrom n j g
 unfolding listFrom
@@ -151,6 +162,9 @@ module _ (F : Form) (s : List ℕ) {n t : ℕ} (fit : ListsFit F s (groupCount F
 
     pub lists-total : total (lists F s read) ≡ t
     lists-total = total-order 0 (lists F s read) ∙ ap length lists-order ∙ listFrom-length (category F s (groupCount F s) t read) t 0
+
+    pub lists-flat : flatten (lists F s read) ≡ listFrom t 0 (λ i. read (categoryAt F s (groupCount F s) t i))
+    lists-flat = sym (flat-order 0 (lists F s read)) ∙ ap (map (λ p. p .1)) lists-order ∙ sym (listFrom-map (λ p. p .1) t 0 (category F s (groupCount F s) t read) (λ i. read (categoryAt F s (groupCount F s) t i)) (λ i. refl))
 
     pub lists-fill :
         (bits : X → ℕ) → AllBytes s → ((at : ℕ) → bits (read (leAt 8 at s)) ≡ leAt 8 at s)

@@ -7,6 +7,7 @@ pub mod Table
 pub mod Fields
 pub mod Spans
 pub mod Lists
+pub mod Texts
 pub mod Natures
 pub mod Back
 -- Bytes that pass 3 to 5 are the bytes of what they spell; `BytesBack` has the laws for whole sheets.
@@ -15,5 +16,6 @@ pub mod Marks
 pub mod Heads
 pub mod Ranges
 pub mod InOrder
+pub mod Area
 pub mod Spelled
 pub mod BytesBack

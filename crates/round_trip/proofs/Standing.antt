@@ -1,12 +1,13 @@
 -- Bytes that stand at a place of a list: what is read there is what they say.
 --     standing-..    parts of bytes that stand somewhere, stand there too
 --     byte-back, number-back    a byte and a number, read where they stand
+--     part-back      bytes, cut out where they stand
 -- Assumes nothing.
 use mathlib.Core.Path.{_≡_, refl, ap, subst, _∙_}
 use mathlib.Core.List.{List, [], _∷_, _++_, append-assoc}
 use Prim.Native.Nat.{ℕ, _+_, _^_, _<_}
-use lib.ListN.{length, getD, length-append}
-use lib.Seq.{getD-at}
+use lib.ListN.{length, getD, take, drop, length-append}
+use lib.Seq.{getD-at, drop-at, take-append-seam}
 use Rattle.bytes.specs.Le.{leAt, leBytes}
 use Rattle.bytes.proofs.Round as Bytes
 
@@ -43,3 +44,6 @@ module _ {s : List ℕ} {at : ℕ} where
 
   pub number-back : (n : ℕ) {v : ℕ} → Standing s at (leBytes n v) → v < 256 ^ n → leAt n at s ≡ v
   number-back n {v} h b = rw (h .whole, ← h .place) (Bytes.number-back (h .before) (h .after) n v b)
+
+  pub part-back : {vs : List ℕ} → Standing s at vs → take (length vs) (drop at s) ≡ vs
+  part-back {vs} h = ap (λ (l : List ℕ). take (length vs) (drop at l)) (h .whole) ∙ ap (take (length vs)) (drop-at (h .before) (vs ++ h .after) at (h .place)) ∙ take-append-seam vs (h .after)

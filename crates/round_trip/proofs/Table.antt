@@ -3,13 +3,13 @@ use mathlib.Core.Path.{_≡_, ap, _∙_}
 use mathlib.Core.List.{List, [], _∷_, _++_, append-assoc, append-nil}
 use Prim.Native.Nat.{ℕ, suc, _-_}
 use native.Mathlib.Nat.{zero-add}
-use lib.ListN.{length}
+use lib.ListN.{length, replicate}
 use Rattle.bytes.specs.Le.{leBytes}
 use Rattle.bytes.proofs.Widths.{length-leBytes}
-use Rattle.base.specs.Form.{Form, place, reservedCount, fieldsEnd}
-use Rattle.base.specs.Sheet.{Group, Sheet}
+use Rattle.base.specs.Form.{Form, place, laterCount, fieldsEnd}
+use Rattle.base.specs.Sheet.{Group, Fields, Sheet}
 use Rattle.base.specs.Decode.{asBits}
-use Rattle.base.specs.Encode.{flag, mark, bitsOf, wholeBits, natureNumber, entryCount, valueCount, markBytes, valueBytes, groupBytes, natureBytes, encode}
+use Rattle.base.specs.Encode.{flag, mark, bitsOf, wholeBits, natureNumber, entryCount, valueCount, textSize, flagBytes, presenceBytes, markBytes, valueBytes, groupBytes, natureBytes, encode}
 use Rattle.round_trip.proofs.Standing.{Standing, standing-first, standing-at}
 use Rattle.round_trip.proofs.Pieces.{Part, number, byte, zeros, plain, together, partOf, widths, together-length, part-stands}
 use Rattle.round_trip.proofs.Arrays.{array}
@@ -26,6 +26,17 @@ partition-sized g = length-leBytes 4 (g .partition)
 
 pub key-sized : (g : Group) → length (keyBytes g) ≡ 9
 key-sized g = ap suc (length-leBytes 8 (wholeBits (g .index)))
+
+-- bytes 6 to 31, before others
+marks-before :
+    (nature area : ℕ) (f : Fields) (rest : List ℕ)
+    → markBytes nature area f ++ rest
+    ≡ flagBytes nature f ++ (leBytes 4 (f .cStability) ++ (leBytes 4 (f .aggregator) ++ (presenceBytes f ++ (0 ∷ (leBytes 2 area ++ (replicate laterCount 0 ++ rest))))))
+unfolding markBytes
+marks-before nature area f rest = six (flagBytes nature f) (leBytes 4 (f .cStability)) (leBytes 4 (f .aggregator)) (presenceBytes f) (0 ∷ leBytes 2 area) (replicate laterCount 0)
+  where
+    six : (a b c d e z : List ℕ) → a ++ b ++ c ++ d ++ e ++ z ++ rest ≡ a ++ (b ++ (c ++ (d ++ (e ++ (z ++ rest)))))
+    six a b c d e z = simp append-assoc
 
 module _ (F : Form) (s : Sheet) where
   -- the laws name a part by its number here
@@ -50,24 +61,26 @@ module _ (F : Form) (s : Sheet) where
       ∷ byte (mark (f .dataset))
       ∷ byte (mark (f .dimensionality))
       ∷ byte (mark (f .sample))
-      ∷ zeros reservedCount  -- 16
-      ∷ number 8 (bitsOf wholeBits (f .rows))  -- 17
+      ∷ byte 0  -- 16
+      ∷ number 2 (textSize (s .nature))
+      ∷ zeros laterCount
+      ∷ number 8 (bitsOf wholeBits (f .rows))  -- 19
       ∷ number 8 (bitsOf asBits (f .columns))
       ∷ number 8 (bitsOf wholeBits (f .dataset))
       ∷ number 8 (bitsOf wholeBits (f .dimensionality))
       ∷ number 8 (bitsOf asBits (f .sample))
-      ∷ number 8 (wholeBits (s .node))  -- 22
+      ∷ number 8 (wholeBits (s .node))  -- 24
       ∷ zeros (F .arraysAt - place F fieldsEnd)
-      ∷ array partitionBytes 4 partition-sized gs  -- 24
+      ∷ array partitionBytes 4 partition-sized gs  -- 26
       ∷ array keyBytes 9 key-sized gs
-      ∷ plain (natureBytes F (s .nature))  -- 26
+      ∷ plain (natureBytes F (s .nature))  -- 28
       ∷ []
 
   in-parts : encode F s ≡ together parts
-  unfolding encode markBytes valueBytes groupBytes
-  in-parts = simp (append-assoc, append-nil)
+  unfolding encode valueBytes groupBytes
+  in-parts = simp (marks-before, append-assoc, append-nil)
 
-  pub sheet-length : length (encode F s) ≡ widths parts 27
+  pub sheet-length : length (encode F s) ≡ widths parts 29
   sheet-length = ap length in-parts ∙ together-length parts
 
   -- part k, at its place

@@ -10,8 +10,8 @@ use mir.Syntax.{w64}
 use mir.Val.{SFits}
 use Rattle.numbers.specs.Kind.{Span}
 use Rattle.base.specs.Form.{Form}
-use Rattle.base.specs.Sheet.{Group, Nature, absent, wholeRange, floatRange, wholeLists, boolLists, floatLists, Fields, Sheet}
-use Rattle.base.specs.Encode.{entryCount, valueCount}
+use Rattle.base.specs.Sheet.{Group, Nature, absent, wholeRange, floatRange, wholeLists, boolLists, floatLists, textLists, Fields, Sheet}
+use Rattle.base.specs.Encode.{entryCount, valueCount, textSize}
 
 -- P of every value of a list
 abbrev pub Each : {X : Type 0} → (X → Type 0) → List X → Type 0
@@ -32,6 +32,10 @@ Double x = T (fits binary64 x)
 
 abbrev pub Bits : ℕ → Type 0
 Bits v = v < 2 ^ 64
+
+-- a byte of a text
+abbrev pub Byte : ℕ → Type 0
+Byte v = v < 256
 
 pub record FieldsFit (s : Fields) : Type 0 where
   pub dataType : s .dataType < 256
@@ -65,12 +69,14 @@ module _ (F : Form) where
   NatureFits (wholeLists ls) = CategoriesFit Whole ls
   NatureFits (boolLists ls) = CategoriesFit Bits ls
   NatureFits (floatLists ls) = CategoriesFit Bits ls
+  NatureFits (textLists ls) = CategoriesFit (Each Byte) ls
 
-  -- the three sizes, and what stands in the fields and the arrays
+  -- the three sizes, the area's size, and what stands in the fields and the arrays
   pub record WellFormed (s : Sheet) : Type 0 where
     pub groupsCounted : length (s .groups) < 256 ^ F .sizeWidth
     pub entriesCounted : entryCount (s .nature) < 256 ^ F .sizeWidth
     pub valuesCounted : valueCount (s .nature) < 256 ^ F .sizeWidth
+    pub textCounted : textSize (s .nature) < 256 ^ 2
     pub fields : FieldsFit (s .fields)
     pub node : Whole (s .node)
     pub groups : Each GroupFits (s .groups)

@@ -9,8 +9,8 @@ use lib.Ieee.{Float}
 use borrow.Author.Tests.{ne-eqb}
 use Rattle.numbers.specs.Kind.{float, zeroFloat}
 use Rattle.base.specs.Form.{Form, natureAt, byteAt, groupCount, listCount}
-use Rattle.base.specs.Sheet.{absent, wholeRange, floatRange, wholeLists, boolLists, floatLists, isWholeRange}
-use Rattle.base.specs.Decode.{asWhole, asFloat, asBits, spanAt, entries, lists, natureIn}
+use Rattle.base.specs.Sheet.{absent, wholeRange, floatRange, wholeLists, boolLists, floatLists, textLists, isWholeRange}
+use Rattle.base.specs.Decode.{asWhole, asFloat, asBits, spanAt, entries, lists, textIn, natureIn}
 use Rattle.base.specs.Bounds.{isPresent, above, under, everyEntry}
 use Rattle.base.specs.Checks.{holdsFrom}
 use Rattle.base.proofs.Holding.{every-from}
@@ -44,25 +44,29 @@ module _ (F : Form) (s : List ℕ) (ask : Ask) where
   unfolding natureIn everyEntry
   no-range-asked x y =
       let k = byteAt F natureAt s in
-      rw (ne-eqb k 1 x, ne-eqb k 2 y) (go (eqb k 3) (eqb k 4) (eqb k 5))
+      rw (ne-eqb k 1 x, ne-eqb k 2 y) (go (eqb k 3) (eqb k 4) (eqb k 5) (eqb k 6))
     where
-      go : (a b c : Bool)
-          → everyEntry (wholeAsked ask) (floatAsked ask) (cond a (wholeLists (lists F s asWhole)) (cond b (boolLists (lists F s asBits)) (cond c (floatLists (lists F s asBits)) absent))) ≡ false
-      go true b c = refl
-      go false true c = refl
-      go false false true = refl
-      go false false false = refl
+      go : (a b c d : Bool)
+          → everyEntry (wholeAsked ask) (floatAsked ask) (cond a (wholeLists (lists F s asWhole)) (cond b (boolLists (lists F s asBits)) (cond c (floatLists (lists F s asBits)) (cond d (textLists (lists F s (textIn F s))) absent))))
+          ≡ false
+      go true b c d = refl
+      go false true c d = refl
+      go false false true d = refl
+      go false false false true = refl
+      go false false false false = refl
 
 module _ (F : Form) (s : List ℕ) where
   pub whole-range-is : isWholeRange (natureIn F s) ≡ eqb (byteAt F natureAt s) 1
   unfolding natureIn
-  whole-range-is = let k = byteAt F natureAt s in go (eqb k 1) (eqb k 2) (eqb k 3) (eqb k 4) (eqb k 5)
+  whole-range-is = let k = byteAt F natureAt s in go (eqb k 1) (eqb k 2) (eqb k 3) (eqb k 4) (eqb k 5) (eqb k 6)
     where
-      go : (a b c d e : Bool)
-          → isWholeRange (cond a (wholeRange (entries F s asWhole)) (cond b (floatRange (entries F s asFloat)) (cond c (wholeLists (lists F s asWhole)) (cond d (boolLists (lists F s asBits)) (cond e (floatLists (lists F s asBits)) absent))))) ≡ a
-      go true b c d e = refl
-      go false true c d e = refl
-      go false false true d e = refl
-      go false false false true e = refl
-      go false false false false true = refl
-      go false false false false false = refl
+      go : (a b c d e f : Bool)
+          → isWholeRange (cond a (wholeRange (entries F s asWhole)) (cond b (floatRange (entries F s asFloat)) (cond c (wholeLists (lists F s asWhole)) (cond d (boolLists (lists F s asBits)) (cond e (floatLists (lists F s asBits)) (cond f (textLists (lists F s (textIn F s))) absent))))))
+          ≡ a
+      go true b c d e f = refl
+      go false true c d e f = refl
+      go false false true d e f = refl
+      go false false false true e f = refl
+      go false false false false true f = refl
+      go false false false false false true = refl
+      go false false false false false false = refl

@@ -5,14 +5,15 @@ use mathlib.Core.List.{List, [], _∷_}
 use Prim.Native.Nat.{ℕ, zero, suc, _+_, _-_, _≤_, _<_}
 use native.Mathlib.Omega.{arith}
 use lib.Dec.{eqb, leb, ltb}
-use borrow.Author.Tests.{ltb-true, eqb-false, ne-eqb, not-false}
+use borrow.Author.Tests.{ltb-true, eqb-false}
 use Rattle.utilities.specs.Lists.{listFrom, every, any}
-use Rattle.base.specs.Form.{Form, natureAt, byteAt, isRangeNature, groupCount, listCount, categoryCount}
-use Rattle.base.specs.Sheet.{Nature, absent, wholeRange, wholeLists, boolLists}
-use Rattle.base.specs.Decode.{asWhole, asFloat, asBits, listNumber, categoryAt, listAt, prepended, entries, lists, natureIn}
+use Rattle.base.specs.Form.{Form, natureAt, byteAt, lastNature, groupCount, listCount, categoryCount}
+use Rattle.base.specs.Sheet.{Nature}
+use Rattle.base.specs.Decode.{asFloat, asBits, listNumber, categoryAt, listAt, prepended, entries, lists, natureIn}
 use Rattle.base.specs.Bounds.{everyEntry}
-use Rattle.base.specs.Checks.{holdsFrom, bytesPermitted, valuesPermitted, groupsPermitted, numberPermitted, valuePermitted, countsPermitted, rangePermitted, listsPermitted, naturePermitted, fieldsFail}
-use Rattle.base.proofs.Natures.{nature-float-range, nature-float-lists}
+use Rattle.base.specs.Checks.{holdsFrom, numberPermitted, valuePermitted, listsPermitted, fieldsFail}
+use Rattle.base.proofs.Natures.{nature-absent, nature-whole-range, nature-float-range, nature-whole-lists, nature-bool-lists, nature-float-lists, nature-text-lists}
+use Rattle.base.proofs.Permitted.{permitted, nature-within, lists-tested}
 use Rattle.base.proofs.Holding.{holds-both, every-from}
 use Rattle.base.proofs.Flags.{and-both}
 use Rattle.shape.specs.declared.bounds.Ask.the-variants as A
@@ -103,25 +104,18 @@ none-of (l ∷ ls) =
 -- ---- by the nature's byte
 
 module _ (F : Form) (s : List ℕ) where
-  permitted-lists : byteAt F natureAt s ≡ 5 → naturePermitted F s ≡ listsPermitted F s
-  unfolding naturePermitted
-  permitted-lists e =
-      ap (λ (k : ℕ). cond (eqb k 0) (countsPermitted F s) (cond (isRangeNature k) (rangePermitted F s) (listsPermitted F s))) e
-
   -- check 4 keeps the list numbers below n
   numbers-below :
       fieldsFail F s ≡ false → byteAt F natureAt s ≡ 5
       → holdsFrom (categoryCount F s) 0 (λ i. ltb (listNumber F s (groupCount F s) i) (listCount F s)) ≡ true
-  unfolding fieldsFail listsPermitted
+  unfolding listsPermitted
   numbers-below h e =
       let t = categoryCount F s in
-      let others = bytesPermitted F s && valuesPermitted F s && groupsPermitted F s in
       let below : ℕ → Bool = λ i. ltb (listNumber F s (groupCount F s) i) (listCount F s) in
       let rising : ℕ → Bool = λ i. eqb i 0 || leb (listNumber F s (groupCount F s) (i - 1)) (listNumber F s (groupCount F s) i) in
-      let nature = and-both others (naturePermitted F s) (not-false (others && naturePermitted F s) h) .1 in
       let number =
       and-both (holdsFrom t 0 (numberPermitted F s)) (holdsFrom t 0 (valuePermitted F s))
-      (holds-both (numberPermitted F s) (valuePermitted F s) t 0 ∙ sym (permitted-lists e) ∙ nature)
+      (holds-both (numberPermitted F s) (valuePermitted F s) t 0 ∙ lists-tested F s (permitted F s h .nature) (rw e) (rw e))
       .0 in
       and-both (holdsFrom t 0 below) (holdsFrom t 0 rising) (holds-both below rising t 0 ∙ number) .0
 
@@ -141,16 +135,18 @@ module _ (F : Form) (s : List ℕ) where
       ∙ any-not (λ r. spansZero (r .lower) (r .upper)) (entries F s asFloat)
       ∙ sym (ap (λ (k : Nature). not (everyEntry (wholeAsked A.Apart) (floatAsked A.Apart) k)) k)
 
-  pub else-sets-nullity : (byteAt F natureAt s ≡ 2 → ⊥) → (byteAt F natureAt s ≡ 5 → ⊥)
-      → divisorSetsNullity (natureIn F s) ≡ not (eqb (byteAt F natureAt s) 1 || eqb (byteAt F natureAt s) 3 || eqb (byteAt F natureAt s) 4)
-  unfolding natureIn divisorSetsNullity
-  else-sets-nullity x y =
-      let k = byteAt F natureAt s in
-      rw (ne-eqb k 2 x, ne-eqb k 5 y) (go (eqb k 1) (eqb k 3) (eqb k 4))
-    where
-      go : (a b c : Bool)
-          → divisorSetsNullity (cond a (wholeRange (entries F s asWhole)) (cond b (wholeLists (lists F s asWhole)) (cond c (boolLists (lists F s asBits)) absent))) ≡ not (a || b || c)
-      go true b c = refl
-      go false true c = refl
-      go false false true = refl
-      go false false false = refl
+  neither : (k : ℕ) → k ≤ lastNature → byteAt F natureAt s ≡ k → (k ≡ 2 → ⊥) → (k ≡ 5 → ⊥) → divisorSetsNullity (natureIn F s) ≡ eqb k 0
+  unfolding divisorSetsNullity
+  neither zero h e x y = ap divisorSetsNullity (nature-absent F s e)
+  neither (suc zero) h e x y = ap divisorSetsNullity (nature-whole-range F s e)
+  neither (suc (suc zero)) h e x y = absurd (x refl)
+  neither (suc (suc (suc zero))) h e x y = ap divisorSetsNullity (nature-whole-lists F s e)
+  neither (suc (suc (suc (suc zero)))) h e x y = ap divisorSetsNullity (nature-bool-lists F s e)
+  neither (suc (suc (suc (suc (suc zero))))) h e x y = absurd (y refl)
+  neither (suc (suc (suc (suc (suc (suc zero)))))) h e x y = ap divisorSetsNullity (nature-text-lists F s e)
+  neither (suc (suc (suc (suc (suc (suc (suc k))))))) h e x y = absurd (omega arith)
+
+  -- of the other natures only the absent one
+  pub else-sets-nullity : fieldsFail F s ≡ false → (byteAt F natureAt s ≡ 2 → ⊥) → (byteAt F natureAt s ≡ 5 → ⊥)
+      → divisorSetsNullity (natureIn F s) ≡ eqb (byteAt F natureAt s) 0
+  else-sets-nullity h x y = neither (byteAt F natureAt s) (nature-within F s (permitted F s h)) refl x y

@@ -7,7 +7,7 @@ use lib.Ieee as Ieee
 use lib.Ieee.{Float, binary64, ofBits}
 use Rattle.numbers.specs.Kind.{zeroFloat}
 use Rattle.utilities.specs.Lists.{any}
-use Rattle.base.specs.Sheet.{Nature, absent, wholeRange, floatRange, wholeLists, boolLists, floatLists, Fields, Sheet}
+use Rattle.base.specs.Sheet.{Nature, absent, wholeRange, floatRange, wholeLists, boolLists, floatLists, textLists, Fields, Sheet}
 use Rattle.base.specs.declared.Component.{Component}
 use Rattle.base.specs.declared.Component.the-variants as C
 use Rattle.base.specs.declared.Family.{Family}
@@ -33,6 +33,7 @@ divisorSetsNullity (floatRange rs) = any (λ r. spansZero (r .lower) (r .upper))
 divisorSetsNullity (wholeLists ls) = false
 divisorSetsNullity (boolLists ls) = false
 divisorSetsNullity (floatLists ls) = any (λ l. any nanOrZero l) ls
+divisorSetsNullity (textLists ls) = false
 
 abbrev pub isDivide : Component → Bool
 isDivide C.Abs = false

@@ -52,7 +52,7 @@ pub fn divisor_sets_nullity(f: Form, s: &[u8]) -> bool
     if nature == form::FLOAT_LISTS {
         return !values_apart(f, s, g, n, t);
     }
-    !((nature == form::WHOLE_RANGE) | (nature == form::WHOLE_LISTS) | (nature == form::BOOL_LISTS))
+    nature == form::ABSENT_NATURE
 }
 
 fn is_divide(c: Component) -> bool

@@ -16,15 +16,15 @@ use Rattle.numbers.specs.declared.Checked.the-variants.{Fits, Leaves}
 use Rattle.utilities.specs.Lists.{every, standardized, repeated}
 use Rattle.utilities.proofs.Built.{both-hold}
 use Rattle.utilities.specs.Columns.{spreads, each, eachPair}
-use Rattle.base.specs.Form.{intType}
+use Rattle.base.specs.Form.{Form, intType}
 use Rattle.base.specs.Sheet.{Nature, wholeLists}
-use Rattle.base.specs.Encode.{valueCount}
+use Rattle.base.specs.Encode.{valueCount, textSize}
 use Rattle.base.specs.Components.{familyOf}
 use Rattle.base.specs.declared.Component.{Component}
 use Rattle.base.specs.declared.Component.the-variants as C
 use Rattle.ends.specs.Ends.{both, present, fromTwo, fromOne, fromBoth, addEnds, subEnds, negEnds, absLower, absUpper, absEnds, corners, mulCorners, mulEnds, divCorners, divUpper, divLower, divPresent, divBy, divEnds, modEnds, poolEnds, endRule}
 use Rattle.ends.specs.Ranges.{wholeRule, rangePair, rangeAlone}
-use Rattle.category_lists.specs.Categories.{categoryRule, pairs, product, combined, mapped, union, united, keptTo, limited}
+use Rattle.category_lists.specs.Categories.{categoryRule, textRule, pairs, product, combined, mapped, union, united, keptTo, textKept, kept, limited}
 use Rattle.shape.specs.Shape.{rowsSum}
 use Rattle.orders.specs.Parts.{isIntCopy}
 use Rattle.orders.proofs.Passing.{Passing}
@@ -241,17 +241,25 @@ module _ {X : Type 0} (same : X → X → Bool) where
   unfolding united
   united-clear columns ls ms = each-pair-clear (union same) union-clear (standardized same columns ls) (standardized same columns ms)
 
-pub kept-clear : (limit : ℕ) (k : Nature) → Clear (keptTo limit k)
+kept-to-clear : (limit : ℕ) (k : Nature) → Clear (keptTo limit k)
 unfolding keptTo
-kept-clear limit k = cond-clear (ltb limit (valueCount k)) (other refl) value
+kept-to-clear limit k = cond-clear (ltb limit (valueCount k)) (other refl) value
+
+text-kept-clear : (limit : ℕ) (k : Nature) → Clear (textKept limit k)
+unfolding textKept
+text-kept-clear limit k = cond-clear (ltb limit (textSize k)) (other refl) value
+
+-- 26, then 28
+pub kept-clear : (F : Form) (k : Nature) → Clear (kept F k)
+kept-clear F k = then-clear _ (kept-to-clear (F .categoryLimit) k) (text-kept-clear (F .textLimit))
 
 pub limited-clear : (limit : ℕ) {g : Result (List (List ℤ))} → Clear g → Clear (limited limit g)
-limited-clear limit p = then-clear _ p (λ ls. kept-clear limit (wholeLists ls))
+limited-clear limit p = then-clear _ p (λ ls. kept-to-clear limit (wholeLists ls))
 
 -- a component has no rule, or one that never refuses with 25
-pub data ClearRule : Option (ℤ → ℤ → Result ℤ) → Type 0 where
+pub data ClearRule {E : Type 0} : Option (E → E → Result E) → Type 0 where
   no-rule : ClearRule none
-  by-rule : {rule : ℤ → ℤ → Result ℤ} → ((a b : ℤ) → Clear (rule a b)) → ClearRule (some rule)
+  by-rule : {rule : E → E → Result E} → ((a b : E) → Clear (rule a b)) → ClearRule (some rule)
 
 -- Int Power's rule is the one that may
 pub category-clear : (c : Component) (type : ℕ) → isIntCopy (familyOf c) type ≡ false → ClearRule (categoryRule c type)
@@ -266,3 +274,16 @@ category-clear C.Log type e = no-rule
 category-clear C.Power type e = rw e no-rule
 category-clear C.Negative type e = by-rule (λ a b. whole-clear .neg a)
 category-clear C.Pool type e = no-rule
+
+-- texts are joined by Add alone
+pub text-rule-clear : (c : Component) → ClearRule (textRule c)
+text-rule-clear C.Abs = no-rule
+text-rule-clear C.Add = by-rule (λ x y. value)
+text-rule-clear C.Subtract = no-rule
+text-rule-clear C.Multiply = no-rule
+text-rule-clear C.Divide = no-rule
+text-rule-clear C.Modulo = no-rule
+text-rule-clear C.Log = no-rule
+text-rule-clear C.Power = no-rule
+text-rule-clear C.Negative = no-rule
+text-rule-clear C.Pool = no-rule

@@ -15,7 +15,7 @@ use Rattle.numbers.specs.Result.{Result, ok, refused, Check, check}
 use Rattle.numbers.specs.Kind.{Span, whole, float, eqZ}
 use Rattle.utilities.specs.Lists.{every}
 use Rattle.base.specs.Form.{Form}
-use Rattle.base.specs.Sheet.{Sheet, Nature, absent, wholeRange, floatRange, wholeLists, boolLists, floatLists}
+use Rattle.base.specs.Sheet.{Sheet, Nature, absent, wholeRange, floatRange, wholeLists, boolLists, floatLists, textLists}
 use Rattle.base.specs.Bounds.{wholeLowersPresent}
 use Rattle.base.specs.Checks.{read, sheetChecks}
 use Rattle.base.specs.Components.{componentOf, familyOf, isUnary}
@@ -26,23 +26,23 @@ use Rattle.base.specs.declared.Numbered.{Numbered}
 use Rattle.base.specs.declared.Numbered.the-variants as N
 use Rattle.ends.specs.Ends.{endRule}
 use Rattle.ends.specs.Ranges.{wholeRule}
-use Rattle.category_lists.specs.Categories.{ruled}
+use Rattle.category_lists.specs.Categories.{categoryRule, textRule, sameText, ruled}
 use Rattle.shape.specs.Shape.{columnsOf, columnsAbsent, widest}
 use Rattle.orders.specs.Orders.{unaryChecks, pairChecks, boundChecks, copyChecks, lastChecks, poolChecks}
 use Rattle.orders.specs.Parts.{isIntCopy}
 use Rattle.orders.proofs.Orders.{bounds-every}
 use Rattle.orders.proofs.Passing.{Passing, pass-parts, bounds-int}
-use Rattle.calls.specs.Natures.{ruleFor, wholeListsOf, boolListsOf, listChecks, bothListChecks, unitedNature, listsUnited, listsPair, listsAlone, wholeRangeWith, floatRangeWith, listsWith, twoNatures, binaryNature, poolNature, unaryNature}
+use Rattle.calls.specs.Natures.{ruleFor, wholeListsOf, boolListsOf, textListsOf, listChecks, bothListChecks, unitedNature, listsUnited, combinedNature, listsPair, listsAlone, wholeRangeWith, floatRangeWith, listsWith, twoNatures, binaryNature, poolNature, unaryNature}
 use Rattle.calls.specs.Derive.{deriveUnary, derivePair, deriveCopy, derivePool, deriveBy, derive}
 use Rattle.calls.specs.Single.{Outcome, stepSheet, step, delivery, singleOf, single}
 use Rattle.step_laws.specs.Unreached.{isLists}
-use Rattle.step_laws.proofs.Clear.{Clear, value, other, then-clear, cond-clear, others, checked-clear, whole-clear, float-clear, rows-clear, rule-clear, whole-rule-clear, range-pair-clear, range-alone-clear, combined-clear, mapped-clear, united-clear, kept-clear, limited-clear, ClearRule, no-rule, by-rule, category-clear}
+use Rattle.step_laws.proofs.Clear.{Clear, value, other, then-clear, cond-clear, others, checked-clear, whole-clear, float-clear, rows-clear, rule-clear, whole-rule-clear, range-pair-clear, range-alone-clear, combined-clear, mapped-clear, united-clear, kept-clear, limited-clear, ClearRule, no-rule, by-rule, category-clear, text-rule-clear}
 
 -- ---- natures
 
 ruled-clear :
-    {X : Type 0} (o : Option (ℤ → ℤ → Result ℤ)) (rest : (ℤ → ℤ → Result ℤ) → Result X) → ClearRule o
-    → ((rule : ℤ → ℤ → Result ℤ) → ((a b : ℤ) → Clear (rule a b)) → Clear (rest rule)) → Clear (ruled o rest)
+    {X E : Type 0} (o : Option (E → E → Result E)) (rest : (E → E → Result E) → Result X) → ClearRule o
+    → ((rule : E → E → Result E) → ((a b : E) → Clear (rule a b)) → Clear (rest rule)) → Clear (ruled o rest)
 ruled-clear none rest no-rule f = other refl
 ruled-clear (some rule) rest (by-rule r) f = f rule r
 
@@ -56,6 +56,7 @@ module _ (c : Component) (type columns : ℕ) (together : Nature → Nature → 
   lists-clear l (wholeLists ms) f = f refl
   lists-clear l (boolLists ms) f = f refl
   lists-clear l (floatLists ms) f = f refl
+  lists-clear l (textLists ms) f = f refl
 
   whole-with-clear : (xs : List (Span ℤ)) (r : Nature) → Clear (wholeRangeWith c type columns together xs r)
   unfolding wholeRangeWith
@@ -65,6 +66,7 @@ module _ (c : Component) (type columns : ℕ) (together : Nature → Nature → 
   whole-with-clear xs (wholeLists ms) = value
   whole-with-clear xs (boolLists ms) = value
   whole-with-clear xs (floatLists ms) = value
+  whole-with-clear xs (textLists ms) = value
 
   float-with-clear : (xs : List (Span Float)) (r : Nature) → Clear (floatRangeWith c type columns together xs r)
   unfolding floatRangeWith
@@ -74,6 +76,7 @@ module _ (c : Component) (type columns : ℕ) (together : Nature → Nature → 
   float-with-clear xs (wholeLists ms) = value
   float-with-clear xs (boolLists ms) = value
   float-with-clear xs (floatLists ms) = value
+  float-with-clear xs (textLists ms) = value
 
   natures-clear : (l r : Nature) → (isLists r ≡ true → Clear (together l r)) → Clear (twoNatures c type columns together l r)
   unfolding twoNatures
@@ -83,6 +86,7 @@ module _ (c : Component) (type columns : ℕ) (together : Nature → Nature → 
   natures-clear (wholeLists ls) r f = lists-clear (wholeLists ls) r f
   natures-clear (boolLists ls) r f = lists-clear (boolLists ls) r f
   natures-clear (floatLists ls) r f = lists-clear (floatLists ls) r f
+  natures-clear (textLists ls) r f = lists-clear (textLists ls) r f
 
 united-nature-clear : (columns : ℕ) (l r : Nature) → Clear (unitedNature columns l r)
 united-nature-clear columns absent r = value
@@ -91,32 +95,31 @@ united-nature-clear columns (floatRange xs) r = value
 united-nature-clear columns (wholeLists ls) r = then-clear _ (united-clear eqZ columns ls (wholeListsOf r)) (λ ns. value)
 united-nature-clear columns (boolLists ls) r = then-clear _ (united-clear eqb columns ls (boolListsOf r)) (λ ns. value)
 united-nature-clear columns (floatLists ls) r = value
+united-nature-clear columns (textLists ls) r = then-clear _ (united-clear sameText columns ls (textListsOf r)) (λ ns. value)
 
 pool-clear : (c : Component) (type columns : ℕ) (l r : Nature) → Clear (poolNature c type columns l r)
 unfolding listsUnited every
 pool-clear c type columns l r =
     natures-clear c type columns (listsUnited columns) l r (λ h. checked-clear (bothListChecks l r) refl (λ p. united-nature-clear columns l r))
 
-module _ (limit : ℕ) (c : Component) (type columns : ℕ) where
-  rule-for-clear : isIntCopy (familyOf c) type ≡ false → (l : Nature) → ClearRule (ruleFor c type l)
-  rule-for-clear e absent = no-rule
-  rule-for-clear e (wholeRange rs) = no-rule
-  rule-for-clear e (floatRange rs) = no-rule
-  rule-for-clear e (wholeLists ls) = category-clear c type e
-  rule-for-clear e (boolLists ls) = no-rule
-  rule-for-clear e (floatLists ls) = no-rule
+-- two operands
+module _ (F : Form) (c : Component) (type columns : ℕ) where
+  combined-nature-clear : isIntCopy (familyOf c) type ≡ false → (l r : Nature) → Clear (combinedNature F c type columns l r)
+  combined-nature-clear e absent r = other refl
+  combined-nature-clear e (wholeRange rs) r = other refl
+  combined-nature-clear e (floatRange rs) r = other refl
+  combined-nature-clear e (wholeLists ls) r =
+      ruled-clear (categoryRule c type) _ (category-clear c type e)
+      (λ rule f. limited-clear (F .categoryLimit) (combined-clear eqZ rule f columns ls (wholeListsOf r)))
+  combined-nature-clear e (boolLists ls) r = other refl
+  combined-nature-clear e (floatLists ls) r = other refl
+  combined-nature-clear e (textLists ls) r =
+      ruled-clear (textRule c) _ (text-rule-clear c)
+      (λ rule f. then-clear _ (combined-clear sameText rule f columns ls (textListsOf r)) (λ ns. kept-clear F (textLists ns)))
 
-  pair-clear : isIntCopy (familyOf c) type ≡ false → (l r : Nature) → Clear (listsPair limit c type columns l r)
+  pair-clear : isIntCopy (familyOf c) type ≡ false → (l r : Nature) → Clear (listsPair F c type columns l r)
   unfolding listsPair every
-  pair-clear e l r =
-      checked-clear (bothListChecks l r) refl
-      (λ p. ruled-clear (ruleFor c type l) _ (rule-for-clear e l) (λ rule f. limited-clear limit (combined-clear eqZ rule f columns (wholeListsOf l) (wholeListsOf r))))
-
-  alone-clear : isIntCopy (familyOf c) type ≡ false → (l : Nature) → Clear (listsAlone limit c type columns l)
-  unfolding listsAlone every
-  alone-clear e l =
-      checked-clear (listChecks l) refl
-      (λ p. ruled-clear (ruleFor c type l) _ (rule-for-clear e l) (λ rule f. limited-clear limit (mapped-clear eqZ rule f columns (wholeListsOf l))))
+  pair-clear e l r = checked-clear (bothListChecks l r) refl (λ p. combined-nature-clear e l r)
 
   -- a pair of categories meets no rule of Modulo, Log and Power on Int
   abbrev Apart : Nature → Type 0
@@ -126,8 +129,25 @@ module _ (limit : ℕ) (c : Component) (type columns : ℕ) where
   apart-rule true e h = sym h ∙ e
   apart-rule false e h = refl
 
-  binary-clear : (l r : Nature) → Apart r → Clear (binaryNature limit c type columns l r)
-  binary-clear l r e = natures-clear c type columns (listsPair limit c type columns) l r (λ h. pair-clear (apart-rule (isIntCopy (familyOf c) type) e h) l r)
+  binary-clear : (l r : Nature) → Apart r → Clear (binaryNature F c type columns l r)
+  binary-clear l r e = natures-clear c type columns (listsPair F c type columns) l r (λ h. pair-clear (apart-rule (isIntCopy (familyOf c) type) e h) l r)
+
+-- one operand
+module _ (limit : ℕ) (c : Component) (type columns : ℕ) where
+  rule-for-clear : isIntCopy (familyOf c) type ≡ false → (l : Nature) → ClearRule (ruleFor c type l)
+  rule-for-clear e absent = no-rule
+  rule-for-clear e (wholeRange rs) = no-rule
+  rule-for-clear e (floatRange rs) = no-rule
+  rule-for-clear e (wholeLists ls) = category-clear c type e
+  rule-for-clear e (boolLists ls) = no-rule
+  rule-for-clear e (floatLists ls) = no-rule
+  rule-for-clear e (textLists ls) = no-rule
+
+  alone-clear : isIntCopy (familyOf c) type ≡ false → (l : Nature) → Clear (listsAlone limit c type columns l)
+  unfolding listsAlone every
+  alone-clear e l =
+      checked-clear (listChecks l) refl
+      (λ p. ruled-clear (ruleFor c type l) _ (rule-for-clear e l) (λ rule f. limited-clear limit (mapped-clear eqZ rule f columns (wholeListsOf l))))
 
   unary-clear : isIntCopy (familyOf c) type ≡ false → (l : Nature) → Clear (unaryNature limit c type columns l)
   unfolding unaryNature
@@ -137,6 +157,7 @@ module _ (limit : ℕ) (c : Component) (type columns : ℕ) where
   unary-clear e (wholeLists ls) = alone-clear e (wholeLists ls)
   unary-clear e (boolLists ls) = alone-clear e (boolLists ls)
   unary-clear e (floatLists ls) = alone-clear e (floatLists ls)
+  unary-clear e (textLists ls) = alone-clear e (textLists ls)
 
 -- ---- the orders of the checks
 
@@ -159,6 +180,7 @@ whole-no-lists (floatRange rs) e = refl
 whole-no-lists (wholeLists ls) e = sym e
 whole-no-lists (boolLists ls) e = sym e
 whole-no-lists (floatLists ls) e = sym e
+whole-no-lists (textLists ls) e = sym e
 
 pub and-no : (t u : Bool) → u ≡ false → (t && u) ≡ false
 and-no true u e = e
@@ -175,22 +197,22 @@ bounds-apart l r c p =
 
 -- ---- the derivation
 
-module _ (limit : ℕ) (c : Component) where
-  derive-unary-clear : ((type : ℕ) → isIntCopy (familyOf c) type ≡ false) → (s : Sheet) → Clear (deriveUnary limit c s)
+module _ (F : Form) (c : Component) where
+  derive-unary-clear : ((type : ℕ) → isIntCopy (familyOf c) type ≡ false) → (s : Sheet) → Clear (deriveUnary F c s)
   unfolding deriveUnary every
   derive-unary-clear e s =
       checked-clear (unaryChecks (s .fields)) refl
-      (λ p. then-clear _ (unary-clear limit c (s .fields .dataType) (columnsOf (s .fields)) (e (s .fields .dataType)) (s .nature)) (λ k. value))
+      (λ p. then-clear _ (unary-clear (F .categoryLimit) c (s .fields .dataType) (columnsOf (s .fields)) (e (s .fields .dataType)) (s .nature)) (λ k. value))
 
-  derive-pair-clear : ((type : ℕ) → isIntCopy (familyOf c) type ≡ false) → (l r : Sheet) → Clear (derivePair limit c l r)
+  derive-pair-clear : ((type : ℕ) → isIntCopy (familyOf c) type ≡ false) → (l r : Sheet) → Clear (derivePair F c l r)
   unfolding derivePair every
   derive-pair-clear e l r =
       let type = l .fields .dataType in
       let apart : (isIntCopy (familyOf c) type && isLists (r .nature)) ≡ false = rw (e type) in
       checked-clear (pairChecks l r) refl
-      (λ p. then-clear _ (binary-clear limit c type (widest (l .fields) (r .fields)) (l .nature) (r .nature) apart) (λ k. value))
+      (λ p. then-clear _ (binary-clear F c type (widest (l .fields) (r .fields)) (l .nature) (r .nature) apart) (λ k. value))
 
-  derive-copy-clear : (l r : Sheet) → Clear (deriveCopy limit c l r)
+  derive-copy-clear : (l r : Sheet) → Clear (deriveCopy F c l r)
   unfolding deriveCopy every
   derive-copy-clear l r =
       let bounds = boundChecks c l r in
@@ -198,23 +220,23 @@ module _ (limit : ℕ) (c : Component) where
       checked-clear (copyChecks c l r) (others-then bounds absent (bounds-every l r (λ k. not (eqb k 25)) refl refl refl c))
       (λ p.
       then-clear _
-      (binary-clear limit c (l .fields .dataType) (columnsOf (l .fields)) (l .nature) (r .nature)
+      (binary-clear F c (l .fields .dataType) (columnsOf (l .fields)) (l .nature) (r .nature)
       (bounds-apart l r c (pass-parts bounds (check 11 absent ∷ []) (p .1 .1 .1 .1) .0)))
       (λ k. checked-clear (lastChecks l r) refl (λ q. value)))
 
-  derive-pool-clear : (l r : Sheet) → Clear (derivePool limit c l r)
+  derive-pool-clear : (l r : Sheet) → Clear (derivePool F c l r)
   unfolding derivePool every
   derive-pool-clear l r =
       checked-clear (poolChecks l r) refl
       (λ p.
       then-clear _ (pool-clear c (l .fields .dataType) (widest (l .fields) (r .fields)) (l .nature) (r .nature))
-      (λ k. then-clear _ (rows-clear (l .fields .rows) (r .fields .rows)) (λ rows. then-clear _ (kept-clear limit k) (λ k′. value))))
+      (λ k. then-clear _ (rows-clear (l .fields .rows) (r .fields .rows)) (λ rows. then-clear _ (kept-clear F k) (λ k′. value))))
 
-  derive-clear : (l r : Sheet) → Clear (derive limit c l r)
+  derive-clear : (l r : Sheet) → Clear (derive F c l r)
   unfolding derive
   derive-clear l r = go (familyOf c) refl
     where
-      go : (f : Family) → familyOf c ≡ f → Clear (deriveBy limit c f l r)
+      go : (f : Family) → familyOf c ≡ f → Clear (deriveBy F c f l r)
       go Fam.Unary e = derive-unary-clear (λ type. ap (λ (f : Family). isIntCopy f type) e) l
       go Fam.Pair e = derive-pair-clear (λ type. ap (λ (f : Family). isIntCopy f type) e) l r
       go Fam.Copy e = derive-copy-clear l r
@@ -229,10 +251,9 @@ read-clear F s = checked-clear (sheetChecks F s) refl (λ p. value)
 step-clear : (F : Form) (c : Component) (node : ℕ) (left right : List ℕ) → Clear (step F c node left right)
 unfolding step stepSheet
 step-clear F c node left right =
-    let limit = F .categoryLimit in
     then-clear _
     (then-clear _ (read-clear F left)
-    (λ l. cond-clear (isUnary (familyOf c)) (derive-clear limit c l l) (then-clear _ (read-clear F right) (λ r. derive-clear limit c l r))))
+    (λ l. cond-clear (isUnary (familyOf c)) (derive-clear F c l l) (then-clear _ (read-clear F right) (λ r. derive-clear F c l r))))
     (λ s. value)
 
 chosen-code : (t : Bool) (a b : Outcome) → eqb (a .code) 25 ≡ false → eqb (b .code) 25 ≡ false → eqb (cond t a b .code) 25 ≡ false

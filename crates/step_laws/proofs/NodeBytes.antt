@@ -1,19 +1,20 @@
 -- Bytes that differ in the place of the node number alone: they are read alike (`read-alike`), and a step on them refuses alike (`step-elsewhere`).
 -- Assumes nothing.
-use mathlib.Core.Path.{_≡_, refl, ap, ap₂, _∙_}
+use mathlib.Core.Path.{_≡_, refl, sym, ap, ap₂, _∙_}
 use mathlib.Core.Bool.{_&&_}
 use mathlib.Core.List.{List}
 use Prim.Native.Nat.{ℕ, zero, suc, _+_, _-_, _*_, _≤_, _<_}
 use native.Mathlib.Omega.{arith}
 use lib.Dec.{eqb}
-use lib.ListN.{length, getD}
+use lib.ListN.{length, getD, take, drop, length-drop}
+use lib.Seq.{ext-getD, getD-drop}
 use Rattle.bytes.specs.Le.{leAt}
 use Rattle.bytes.proofs.Round.{leAt-cong}
 use Rattle.numbers.specs.Result.{ok}
 use Rattle.utilities.specs.Lists.{listFrom}
-use Rattle.base.specs.Form.{Form, Laid, groupCount, listCount, categoryCount, place, byteAt, natureAt, typeAt, nullityAt, releasableAt, notEmptyAt, orderedAt, cStabilityAt, aggregatorAt, rowsMarkAt, columnsMarkAt, datasetMarkAt, dimensionalityMarkAt, sampleMarkAt, reservedAt, reservedCount, rowsAt, columnsAt, datasetAt, dimensionalityAt, sampleAt, nodeAt, fieldsEnd, partitionAt, keyAt, lowerAt, upperAt, numberAt, valueAt}
-use Rattle.base.specs.Decode.{asWhole, asFloat, asBits, optionAt, endAt, listNumber, categoryAt, listAt, entries, lists, natureIn, fieldsIn, groupsIn, decode}
-use Rattle.base.specs.Checks.{holdsFrom, sizesFail, gapPermitted, bytesPermitted, valuesPermitted, keyPermitted, groupsPermitted, endPermitted, rangePermitted, numberPermitted, valuePermitted, listsPermitted, naturePermitted, fieldsFail, sheetChecks, read}
+use Rattle.base.specs.Form.{Form, Laid, groupCount, listCount, categoryCount, place, byteAt, natureAt, typeAt, nullityAt, releasableAt, notEmptyAt, orderedAt, cStabilityAt, aggregatorAt, rowsMarkAt, columnsMarkAt, datasetMarkAt, dimensionalityMarkAt, sampleMarkAt, reservedAt, areaSizeAt, laterAt, laterCount, rowsAt, columnsAt, datasetAt, dimensionalityAt, sampleAt, nodeAt, fieldsEnd, partitionAt, keyAt, lowerAt, upperAt, numberAt, valueAt, areaAt, areaSize}
+use Rattle.base.specs.Decode.{asWhole, asFloat, asBits, optionAt, endAt, listNumber, categoryAt, startIn, lengthIn, listAt, entries, lists, textIn, natureIn, fieldsIn, groupsIn, decode}
+use Rattle.base.specs.Checks.{holdsFrom, sizesFail, gapPermitted, bytesPermitted, valuesPermitted, keyPermitted, groupsPermitted, endPermitted, rangePermitted, numberPermitted, valuePermitted, listsPermitted, endToEnd, areaPermitted, naturePermitted, fieldsFail, sheetChecks, read}
 use Rattle.base.specs.Code.{codeOf}
 use Rattle.base.specs.declared.Component.{Component}
 use Rattle.calls.specs.Single.{step}
@@ -37,6 +38,12 @@ module _ {F : Form} (laid : Laid F) {s s′ : List ℕ} (same : Elsewhere F s s�
   byte-behind : (k : ℕ) → F .arraysAt ≤ k → getD s k 0 ≡ getD s′ k 0
   byte-behind k h = same .behind k (omega (arith, laid .arrays))
 
+  rest-behind : (k : ℕ) → F .arraysAt ≤ k → drop k s ≡ drop k s′
+  rest-behind k h =
+      let size : length s ≡ length s′ = same .size in
+      ext-getD 0 (drop k s) (drop k s′) (omega (arith, length-drop k s, length-drop k s′))
+      (λ i l. getD-drop k s i 0 ∙ byte-behind (k + i) (omega arith) ∙ sym (getD-drop k s′ i 0))
+
   byte : (k : ℕ) → k < nodeAt → byteAt F k s ≡ byteAt F k s′
   byte k h = same .before (place F k) (omega arith)
 
@@ -52,6 +59,9 @@ module _ {F : Form} (laid : Laid F) {s s′ : List ℕ} (same : Elsewhere F s s�
   categories-same : categoryCount F s ≡ categoryCount F s′
   categories-same = number-before (F .sizeWidth) (2 * F .sizeWidth) (omega (arith, laid .sizes))
 
+  area-same : areaSize F s ≡ areaSize F s′
+  area-same = number-before 2 (place F areaSizeAt) (omega arith)
+
   list-number : (g k : ℕ) → listNumber F s g k ≡ listNumber F s′ g k
   list-number g k = number-behind (F .numberWidth) (numberAt F g k) (omega arith)
 
@@ -62,7 +72,7 @@ module _ {F : Form} (laid : Laid F) {s s′ : List ℕ} (same : Elsewhere F s s�
 
   sizes-fail : sizesFail F s ≡ sizesFail F s′
   unfolding sizesFail
-  sizes-fail = rw (same .size, byte natureAt (omega arith), groups-same, lists-same, categories-same)
+  sizes-fail = rw (same .size, byte natureAt (omega arith), groups-same, lists-same, categories-same, area-same)
 
   reserved : (n k : ℕ) → k + n ≤ nodeAt → holdsFrom n k (λ j. eqb (byteAt F j s) 0) ≡ holdsFrom n k (λ j. eqb (byteAt F j s′) 0)
   unfolding holdsFrom
@@ -87,7 +97,8 @@ module _ {F : Form} (laid : Laid F) {s s′ : List ℕ} (same : Elsewhere F s s�
         byte releasableAt (omega arith),
         byte notEmptyAt (omega arith),
         byte orderedAt (omega arith),
-        reserved reservedCount reservedAt (omega arith),
+        byte reservedAt (omega arith),
+        reserved laterCount laterAt (omega arith),
         gap-permitted,
       )
 
@@ -141,10 +152,21 @@ module _ {F : Form} (laid : Laid F) {s s′ : List ℕ} (same : Elsewhere F s s�
   unfolding listsPermitted
   lists-permitted = λ i. holdsFrom (categories-same i) 0 (λ k. number-permitted k i && value-permitted k i)
 
+  end-to-end : (n k at : ℕ) → endToEnd F s n k at ≡ endToEnd F s′ n k at
+  unfolding endToEnd
+  end-to-end zero k at = rw area-same
+  end-to-end (suc n) k at =
+      let v = categoryAt F s′ (groupCount F s′) (categoryCount F s′) k in
+      rw (groups-same, categories-same, category (groupCount F s′) (categoryCount F s′) k, end-to-end n (k + 1) (at + lengthIn v))
+
+  area-permitted : areaPermitted F s ≡ areaPermitted F s′
+  unfolding areaPermitted
+  area-permitted = rw (byte natureAt (omega arith), categories-same, area-same, end-to-end (categoryCount F s′) 0 0)
+
   fields-fail : fieldsFail F s ≡ fieldsFail F s′
   unfolding fieldsFail naturePermitted
   fields-fail =
-      rw (bytes-permitted, values-permitted, groups-permitted, byte natureAt (omega arith), lists-same, categories-same, range-permitted, lists-permitted)
+      rw (bytes-permitted, values-permitted, groups-permitted, area-permitted, byte natureAt (omega arith), lists-same, categories-same, range-permitted, lists-permitted)
 
   -- ---- the sheet
 
@@ -216,9 +238,18 @@ module _ {F : Form} (laid : Laid F) {s s′ : List ℕ} (same : Elsewhere F s s�
             list-in (groupCount F s) (categoryCount F s) j (categoryCount F s) 0
             ∙ ap₂ (λ (g t : ℕ). listAt F s′ read g t j t 0) groups-same categories-same
 
+  text-in : (v : ℕ) → textIn F s v ≡ textIn F s′ v
+  unfolding textIn
+  text-in v =
+      let at : ℕ = areaAt F (groupCount F s′) (categoryCount F s′) + startIn v in
+      rw (groups-same, categories-same) (ap (take (lengthIn v)) (rest-behind at (omega arith)))
+
+  texts-in : lists F s (textIn F s) ≡ lists F s′ (textIn F s′)
+  texts-in = lists-in (textIn F s) ∙ (λ i. lists F s′ (λ v. text-in v i))
+
   nature-same : natureIn F s ≡ natureIn F s′
   unfolding natureIn
-  nature-same = rw (byte natureAt (omega arith), entries-in asWhole, entries-in asFloat, lists-in asWhole, lists-in asBits)
+  nature-same = rw (byte natureAt (omega arith), entries-in asWhole, entries-in asFloat, lists-in asWhole, lists-in asBits, texts-in)
 
   decode-alike : Alike (ok (decode F s)) (ok (decode F s′))
   unfolding decode

@@ -24,7 +24,7 @@ use Rattle.base.specs.declared.Family.the-variants as Fam
 use Rattle.shape.specs.Shape.{columnsOf, widest, rowsSum}
 use Rattle.orders.specs.Orders.{unaryChecks, pairChecks, boundChecks, copyChecks, lastChecks, poolChecks}
 use Rattle.shape.specs.Fields.{withNode, numbered}
-use Rattle.category_lists.specs.Categories.{keptTo}
+use Rattle.category_lists.specs.Categories.{kept}
 use Rattle.calls.specs.Natures.{unaryNature, binaryNature, poolNature}
 use Rattle.calls.specs.Derive.{deriveUnary, derivePair, deriveCopy, derivePool, deriveBy, derive}
 use Rattle.calls.specs.Single.{stepSheet, step}
@@ -77,51 +77,51 @@ bounds-numberless C.Power a b l r = refl
 bounds-numberless C.Negative a b l r = refl
 bounds-numberless C.Pool a b l r = refl
 
-module _ (limit : ℕ) (c : Component) (a b : ℤ) (l r : Sheet) where
-  unary-numberless : Alike (deriveUnary limit c (withNode a l)) (deriveUnary limit c l)
+module _ (F : Form) (c : Component) (a b : ℤ) (l r : Sheet) where
+  unary-numberless : Alike (deriveUnary F c (withNode a l)) (deriveUnary F c l)
   unfolding deriveUnary
   unary-numberless =
       checked-alike (unaryChecks (l .fields))
-      (then-alike (unaryNature limit c (l .fields .dataType) (columnsOf (l .fields)) (l .nature)) _ _ (λ k. record { but-node = λ n. refl }))
+      (then-alike (unaryNature (F .categoryLimit) c (l .fields .dataType) (columnsOf (l .fields)) (l .nature)) _ _ (λ k. record { but-node = λ n. refl }))
 
-  pair-numberless : Alike (derivePair limit c (withNode a l) (withNode b r)) (derivePair limit c l r)
+  pair-numberless : Alike (derivePair F c (withNode a l) (withNode b r)) (derivePair F c l r)
   unfolding derivePair
   pair-numberless =
       checked-alike (pairChecks l r)
-      (then-alike (binaryNature limit c (l .fields .dataType) (widest (l .fields) (r .fields)) (l .nature) (r .nature)) _ _ (λ k. record { but-node = λ n. refl }))
+      (then-alike (binaryNature F c (l .fields .dataType) (widest (l .fields) (r .fields)) (l .nature) (r .nature)) _ _ (λ k. record { but-node = λ n. refl }))
 
-  copy-numberless : Alike (deriveCopy limit c (withNode a l) (withNode b r)) (deriveCopy limit c l r)
+  copy-numberless : Alike (deriveCopy F c (withNode a l) (withNode b r)) (deriveCopy F c l r)
   unfolding deriveCopy
   copy-numberless =
       rw (bounds-numberless c a b l r)
       (checked-alike (copyChecks c l r)
-      (then-alike (binaryNature limit c (l .fields .dataType) (columnsOf (l .fields)) (l .nature) (r .nature)) _ _
+      (then-alike (binaryNature F c (l .fields .dataType) (columnsOf (l .fields)) (l .nature) (r .nature)) _ _
       (λ k. checked-alike (lastChecks l r) (record { but-node = λ n. refl }))))
 
-  pool-numberless : Alike (derivePool limit c (withNode a l) (withNode b r)) (derivePool limit c l r)
+  pool-numberless : Alike (derivePool F c (withNode a l) (withNode b r)) (derivePool F c l r)
   unfolding derivePool
   pool-numberless =
       checked-alike (poolChecks l r)
       (then-alike (poolNature c (l .fields .dataType) (widest (l .fields) (r .fields)) (l .nature) (r .nature)) _ _
-      (λ k. then-alike (rowsSum (l .fields .rows) (r .fields .rows)) _ _ (λ rows. then-alike (keptTo limit k) _ _ (λ k′. record { but-node = λ n. refl }))))
+      (λ k. then-alike (rowsSum (l .fields .rows) (r .fields .rows)) _ _ (λ rows. then-alike (kept F k) _ _ (λ k′. record { but-node = λ n. refl }))))
 
-  by-family : (f : Family) → Alike (deriveBy limit c f (withNode a l) (withNode b r)) (deriveBy limit c f l r)
+  by-family : (f : Family) → Alike (deriveBy F c f (withNode a l) (withNode b r)) (deriveBy F c f l r)
   by-family Fam.Unary = unary-numberless
   by-family Fam.Pair = pair-numberless
   by-family Fam.Copy = copy-numberless
   by-family Fam.Pool = pool-numberless
 
-  pub numberless : Alike (derive limit c (withNode a l) (withNode b r)) (derive limit c l r)
+  pub numberless : Alike (derive F c (withNode a l) (withNode b r)) (derive F c l r)
   unfolding derive
   numberless = by-family (familyOf c)
 
 same-sheet : (l l′ : Sheet) → Alike (ok l) (ok l′) → l ≡ withNode (l .node) l′
 same-sheet l l′ e = let h : _≡_ {A = Result Sheet} (ok l) (ok (withNode (l .node) l′)) = e .but-node (l .node) in cc
 
-pub derive-alike : (limit : ℕ) (c : Component) (l l′ r r′ : Sheet) → Alike (ok l) (ok l′) → Alike (ok r) (ok r′)
-    → Alike (derive limit c l r) (derive limit c l′ r′)
-derive-alike limit c l l′ r r′ p q =
-    rw (same-sheet l l′ p, same-sheet r r′ q) (numberless limit c (l .node) (r .node) l′ r′)
+pub derive-alike : (F : Form) (c : Component) (l l′ r r′ : Sheet) → Alike (ok l) (ok l′) → Alike (ok r) (ok r′)
+    → Alike (derive F c l r) (derive F c l′ r′)
+derive-alike F c l l′ r r′ p q =
+    rw (same-sheet l l′ p, same-sheet r r′ q) (numberless F c (l .node) (r .node) l′ r′)
 
 -- ---- a step on bytes
 
@@ -129,11 +129,10 @@ module _ (F : Form) (c : Component) (left left′ right right′ : List ℕ) (p 
   pub stepSheet-alike : Alike (stepSheet F c left right) (stepSheet F c left′ right′)
   unfolding stepSheet
   stepSheet-alike =
-      let limit = F .categoryLimit in
       sheet-alike (read F left) (read F left′) _ _ p
       (λ l l′ e.
-      cond-alike (isUnary (familyOf c)) (derive-alike limit c l l′ l l′ e e)
-      (sheet-alike (read F right) (read F right′) _ _ q (λ r r′ f. derive-alike limit c l l′ r r′ e f)))
+      cond-alike (isUnary (familyOf c)) (derive-alike F c l l′ l l′ e e)
+      (sheet-alike (read F right) (read F right′) _ _ q (λ r r′ f. derive-alike F c l l′ r r′ e f)))
 
   -- a code of 0 is a step that derives; `node` and `node′` are the calls' own node numbers
   pub step-alike : (node node′ : ℕ) → codeOf (step F c node left right) ≡ codeOf (step F c node′ left′ right′)

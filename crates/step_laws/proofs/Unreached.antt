@@ -5,7 +5,6 @@
 use mathlib.Core.Path.{_≡_, refl, sym, ap, subst}
 use mathlib.Core.Bool.{Bool, true, false, cond, not, _&&_, _||_}
 use mathlib.Core.List.{List, [], _∷_, _++_}
-use mathlib.Core.Option.{none}
 use mathlib.Core.Logic.{_⊎_, inl, inr, ⊎-elim}
 use Prim.Native.Nat.{ℕ}
 use lib.IntN.{ℤ}
@@ -17,8 +16,8 @@ use Rattle.numbers.specs.Kind.{Span}
 use Rattle.numbers.proofs.Results.{then-refused}
 use Rattle.utilities.specs.Lists.{every, has}
 use Rattle.utilities.proofs.Built.{both-hold}
-use Rattle.base.specs.Form.{intType, floatType}
-use Rattle.base.specs.Sheet.{Sheet, Nature, absent, wholeRange, floatRange, wholeLists, boolLists, floatLists, isWholeRange}
+use Rattle.base.specs.Form.{Form, intType, floatType}
+use Rattle.base.specs.Sheet.{Sheet, Nature, absent, wholeRange, floatRange, wholeLists, boolLists, floatLists, textLists, isWholeRange}
 use Rattle.base.specs.Bounds.{everyEntry, lowersPresent, wholeLowersPresent}
 use Rattle.base.specs.Components.{familyOf}
 use Rattle.base.specs.declared.Component.{Component}
@@ -27,7 +26,7 @@ use Rattle.base.specs.declared.Family.the-variants as Fam
 use Rattle.category_lists.specs.Categories.{categoryRule}
 use Rattle.shape.specs.Shape.{columnsOf, columnsAbsent}
 use Rattle.orders.specs.Orders.{bothOf, boundChecks, copyChecks}
-use Rattle.calls.specs.Natures.{ruleFor, bothListChecks, listsPair, listsWith, twoNatures, binaryNature}
+use Rattle.calls.specs.Natures.{bothListChecks, combinedNature, listsPair, listsWith, twoNatures, binaryNature}
 use Rattle.calls.specs.Derive.{deriveCopy, derive}
 use Rattle.step_laws.specs.Unreached.{RefusedWith, isLists, readsRight}
 use Rattle.step_laws.proofs.Never.{and-no}
@@ -82,6 +81,7 @@ lists-no-entry p q (floatRange rs) e = absurd (subst T (sym e) tt)
 lists-no-entry p q (wholeLists ls) e = refl
 lists-no-entry p q (boolLists ls) e = refl
 lists-no-entry p q (floatLists ls) e = refl
+lists-no-entry p q (textLists ls) e = refl
 
 no-lowers : (k : Nature) → isLists k ≡ true → lowersPresent k ≡ false
 unfolding lowersPresent
@@ -124,10 +124,10 @@ bounds-stop C.Pool l r e h = absurd (subst T (sym e) tt)
 
 -- the component reads right's bounds, and categories have none: no rule for categories is reached, whatever left is
 pub categories-unreached :
-    (limit : ℕ) (c : Component) (l r : Sheet) → readsRight c (l .fields .dataType) ≡ true → isLists (r .nature) ≡ true
-    → RefusedWith (6 ∷ 7 ∷ 14 ∷ 15 ∷ []) (derive limit c l r)
+    (F : Form) (c : Component) (l r : Sheet) → readsRight c (l .fields .dataType) ≡ true → isLists (r .nature) ≡ true
+    → RefusedWith (6 ∷ 7 ∷ 14 ∷ 15 ∷ []) (derive F c l r)
 unfolding derive deriveCopy has
-categories-unreached limit c l r e h =
+categories-unreached F c l r e h =
     let stop = bounds-stop c l r e h in
     rw (stop .0)
     (stopped early _ (copyChecks c l r)
@@ -138,24 +138,24 @@ categories-unreached limit c l r e h =
 abbrev unruled : List ℕ
 unruled = 6 ∷ 7 ∷ 11 ∷ 14 ∷ 19 ∷ 20 ∷ 21 ∷ 22 ∷ []
 
-no-power-rule : (type : ℕ) (l : Nature) → eqb type intType ≡ false → ruleFor C.Power type l ≡ none
-unfolding categoryRule
-no-power-rule type absent e = refl
-no-power-rule type (wholeRange rs) e = refl
-no-power-rule type (floatRange rs) e = refl
-no-power-rule type (wholeLists ls) e = rw e
-no-power-rule type (boolLists ls) e = refl
-no-power-rule type (floatLists ls) e = refl
+module _ (F : Form) (type columns : ℕ) (e : eqb type intType ≡ false) where
+  no-power-rule : (l r : Nature) → combinedNature F C.Power type columns l r ≡ refused 22
+  unfolding categoryRule
+  no-power-rule absent r = refl
+  no-power-rule (wholeRange rs) r = refl
+  no-power-rule (floatRange rs) r = refl
+  no-power-rule (wholeLists ls) r = rw e
+  no-power-rule (boolLists ls) r = refl
+  no-power-rule (floatLists ls) r = refl
+  no-power-rule (textLists ls) r = refl
 
-module _ (limit type columns : ℕ) (e : eqb type intType ≡ false) where
-  lists-refused : (l r : Nature) → RefusedWith unruled (listsPair limit C.Power type columns l r)
+  lists-refused : (l r : Nature) → RefusedWith unruled (listsPair F C.Power type columns l r)
   unfolding listsPair every has
   lists-refused l r =
-      rw (no-power-rule type l e)
-      (refused-after unruled _ (bothListChecks l r) refl
-      (record { number = 22; among = refl; is = refl }))
+      refused-after unruled _ (bothListChecks l r) refl
+      (record { number = 22; among = refl; is = no-power-rule l r })
 
-  with-refused : (l r : Nature) → isLists r ≡ true → RefusedWith unruled (listsWith C.Power type columns (listsPair limit C.Power type columns) l r)
+  with-refused : (l r : Nature) → isLists r ≡ true → RefusedWith unruled (listsWith C.Power type columns (listsPair F C.Power type columns) l r)
   unfolding listsWith
   with-refused l absent h = absurd (subst T (sym h) tt)
   with-refused l (wholeRange rs) h = absurd (subst T (sym h) tt)
@@ -163,8 +163,9 @@ module _ (limit type columns : ℕ) (e : eqb type intType ≡ false) where
   with-refused l (wholeLists ls) h = lists-refused l (wholeLists ls)
   with-refused l (boolLists ls) h = lists-refused l (boolLists ls)
   with-refused l (floatLists ls) h = lists-refused l (floatLists ls)
+  with-refused l (textLists ls) h = lists-refused l (textLists ls)
 
-  nature-refused : (l r : Nature) → isLists l ≡ true → isLists r ≡ true → RefusedWith unruled (binaryNature limit C.Power type columns l r)
+  nature-refused : (l r : Nature) → isLists l ≡ true → isLists r ≡ true → RefusedWith unruled (binaryNature F C.Power type columns l r)
   unfolding twoNatures
   nature-refused absent r g h = absurd (subst T (sym g) tt)
   nature-refused (wholeRange rs) r g h = absurd (subst T (sym g) tt)
@@ -172,13 +173,14 @@ module _ (limit type columns : ℕ) (e : eqb type intType ≡ false) where
   nature-refused (wholeLists ls) r g h = with-refused (wholeLists ls) r h
   nature-refused (boolLists ls) r g h = with-refused (boolLists ls) r h
   nature-refused (floatLists ls) r g h = with-refused (floatLists ls) r h
+  nature-refused (textLists ls) r g h = with-refused (textLists ls) r h
 
 -- 01: "Float Power has none": two category operands of a Power that is not of type Int
 pub float-power-refused :
-    (limit : ℕ) (l r : Sheet) → eqb (l .fields .dataType) intType ≡ false → isLists (l .nature) ≡ true → isLists (r .nature) ≡ true
-    → RefusedWith (6 ∷ 7 ∷ 11 ∷ 14 ∷ 19 ∷ 20 ∷ 21 ∷ 22 ∷ []) (derive limit C.Power l r)
+    (F : Form) (l r : Sheet) → eqb (l .fields .dataType) intType ≡ false → isLists (l .nature) ≡ true → isLists (r .nature) ≡ true
+    → RefusedWith (6 ∷ 7 ∷ 11 ∷ 14 ∷ 19 ∷ 20 ∷ 21 ∷ 22 ∷ []) (derive F C.Power l r)
 unfolding derive deriveCopy every has
-float-power-refused limit l r e g h =
-    let w = nature-refused limit (l .fields .dataType) (columnsOf (l .fields)) e (l .nature) (r .nature) g h in
+float-power-refused F l r e g h =
+    let w = nature-refused F (l .fields .dataType) (columnsOf (l .fields)) e (l .nature) (r .nature) g h in
     refused-after unruled _ (copyChecks C.Power l r) (rw e)
     (record { number = w .number; among = w .among; is = then-refused _ (w .is) })

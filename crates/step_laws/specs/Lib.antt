@@ -2,3 +2,4 @@ pub mod Unreached
 pub mod Computing
 pub mod Shelf
 pub mod Pooled
+pub mod Texts

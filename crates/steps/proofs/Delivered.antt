@@ -35,7 +35,7 @@ module _ (F : Form) where
 
   module _ (c : Component) (left : List ℕ) {x : Fields} (head : x ≡ fieldsIn F left) {k : ℕ} (code : k ≡ firstFailing (unaryChecks x)) where
     abbrev unaryAnswer : Result (List ℕ)
-    unaryAnswer = andThen (deriveUnary (F .categoryLimit) c (decode F left)) (λ s. ok (encode F s))
+    unaryAnswer = andThen (deriveUnary F c (decode F left)) (λ s. ok (encode F s))
 
     unary-code : k ≡ firstFailing (unaryChecks (fieldsIn F left))
     unary-code = code ∙ ap (λ (x : Fields). firstFailing (unaryChecks x)) head
@@ -74,12 +74,12 @@ module _ (F : Form) where
 
   module _ (c : Component) (node : ℕ) (left right : List ℕ) {k : ℕ} (code : k ≡ firstFailing (pairChecks (decode F left) (decode F right))) where
     abbrev pairAnswer : Result (List ℕ)
-    pairAnswer = andThen (derivePair (F .categoryLimit) c (decode F left) (decode F right)) (λ s. ok (encode F (withNode (pos node) s)))
+    pairAnswer = andThen (derivePair F c (decode F left) (decode F right)) (λ s. ok (encode F (withNode (pos node) s)))
 
     -- what `derivePair` asks of the natures
     abbrev pairNature : Result Nature
     pairNature =
-        binaryNature (F .categoryLimit) c (decode F left .fields .dataType) (widest (decode F left .fields) (decode F right .fields))
+        binaryNature F c (decode F left .fields .dataType) (widest (decode F left .fields) (decode F right .fields))
         (decode F left .nature) (decode F right .nature)
 
     pub pair-refused : (k ≡ 0 → ⊥) → refused k ≡ pairAnswer
@@ -91,7 +91,7 @@ module _ (F : Form) where
 
     module _ {x y : Fields} (lh : x ≡ fieldsIn F left) (rh : y ≡ fieldsIn F right) {columns : ℕ} (width : columns ≡ widest x y) (none : k ≡ 0) where
       abbrev pairGiven : Result Nature
-      pairGiven = binaryNature (F .categoryLimit) c (x .dataType) columns (natureIn F left) (natureIn F right)
+      pairGiven = binaryNature F c (x .dataType) columns (natureIn F left) (natureIn F right)
 
       pair-given : pairGiven ≡ pairNature
       unfolding decode
@@ -121,11 +121,11 @@ module _ (F : Form) where
 
   module _ (c : Component) (left right : List ℕ) {k : ℕ} (code : k ≡ firstFailing (copyChecks c (decode F left) (decode F right))) where
     abbrev copyAnswer : Result (List ℕ)
-    copyAnswer = andThen (deriveCopy (F .categoryLimit) c (decode F left) (decode F right)) (λ s. ok (encode F s))
+    copyAnswer = andThen (deriveCopy F c (decode F left) (decode F right)) (λ s. ok (encode F s))
 
     abbrev copyNature : Result Nature
     copyNature =
-        binaryNature (F .categoryLimit) c (decode F left .fields .dataType) (columnsOf (decode F left .fields)) (decode F left .nature)
+        binaryNature F c (decode F left .fields .dataType) (columnsOf (decode F left .fields)) (decode F left .nature)
         (decode F right .nature)
 
     abbrev copyRest : Nature → Result Sheet
@@ -140,7 +140,7 @@ module _ (F : Form) where
 
     module _ {x : Fields} (lh : x ≡ fieldsIn F left) {columns : ℕ} (width : columns ≡ columnsOf x) (none : k ≡ 0) where
       abbrev copyGiven : Result Nature
-      copyGiven = binaryNature (F .categoryLimit) c (x .dataType) columns (natureIn F left) (natureIn F right)
+      copyGiven = binaryNature F c (x .dataType) columns (natureIn F left) (natureIn F right)
 
       copy-given : copyGiven ≡ copyNature
       unfolding decode

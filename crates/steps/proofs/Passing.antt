@@ -10,8 +10,8 @@ use Prim.Native.Nat.{ℕ}
 use lib.Dec.{T, eqb}
 use Rattle.numbers.specs.Result.{check, firstFailing}
 use Rattle.base.specs.Form.{Form, byteAt, natureAt, isRangeNature}
-use Rattle.base.specs.Sheet.{Fields, Nature, absent, wholeRange, floatRange, wholeLists, boolLists, floatLists}
-use Rattle.base.specs.Decode.{asFloat, asWhole, asBits, entries, lists, fieldsIn, natureIn, decode}
+use Rattle.base.specs.Sheet.{Fields, Nature, absent, wholeRange, floatRange, wholeLists, boolLists, floatLists, textLists}
+use Rattle.base.specs.Decode.{asFloat, asWhole, asBits, entries, lists, textIn, fieldsIn, natureIn, decode}
 use Rattle.base.specs.Checks.{fieldsFail}
 use Rattle.base.specs.Bounds.{wholeLowersPresent}
 use Rattle.base.specs.declared.Component.{Component}
@@ -58,20 +58,21 @@ module _ (F : Form) (left right : List ℕ) where
 -- `lower_int` gives a list only of a whole range
 whole-is-range : (F : Form) (s : List ℕ) → wholeLowersPresent (natureIn F s) ≡ true → isRangeNature (byteAt F natureAt s) ≡ true
 unfolding natureIn wholeLowersPresent
-whole-is-range F s e = let k = byteAt F natureAt s in go (eqb k 1) (eqb k 2) (eqb k 3) (eqb k 4) (eqb k 5) (wholeRange (entries F s asWhole)) refl e
+whole-is-range F s e = let k = byteAt F natureAt s in go (eqb k 1) (eqb k 2) (eqb k 3) (eqb k 4) (eqb k 5) (eqb k 6) (wholeRange (entries F s asWhole)) refl e
   where
-    go : (a b c d f : Bool) (whole : Nature) → eqb (byteAt F natureAt s) 1 ≡ a
+    go : (a b c d f g : Bool) (whole : Nature) → eqb (byteAt F natureAt s) 1 ≡ a
         → wholeLowersPresent
         (cond a whole
-        (cond b (floatRange (entries F s asFloat)) (cond c (wholeLists (lists F s asWhole)) (cond d (boolLists (lists F s asBits)) (cond f (floatLists (lists F s asBits)) absent)))))
+        (cond b (floatRange (entries F s asFloat)) (cond c (wholeLists (lists F s asWhole)) (cond d (boolLists (lists F s asBits)) (cond f (floatLists (lists F s asBits)) (cond g (textLists (lists F s (textIn F s))) absent))))))
         ≡ true
         → isRangeNature (byteAt F natureAt s) ≡ true
-    go true b c d f whole h e = rw h
-    go false true c d f whole h e = absurd (subst T (sym e) tt)
-    go false false true d f whole h e = absurd (subst T (sym e) tt)
-    go false false false true f whole h e = absurd (subst T (sym e) tt)
-    go false false false false true whole h e = absurd (subst T (sym e) tt)
-    go false false false false false whole h e = absurd (subst T (sym e) tt)
+    go true b c d f g whole h e = rw h
+    go false true c d f g whole h e = absurd (subst T (sym e) tt)
+    go false false true d f g whole h e = absurd (subst T (sym e) tt)
+    go false false false true f g whole h e = absurd (subst T (sym e) tt)
+    go false false false false true g whole h e = absurd (subst T (sym e) tt)
+    go false false false false false true whole h e = absurd (subst T (sym e) tt)
+    go false false false false false false whole h e = absurd (subst T (sym e) tt)
 
 pub reached :
     (F : Form) (left right : List ℕ) (c : Component) {x : Fields} → x ≡ fieldsIn F left

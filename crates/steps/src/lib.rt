@@ -31,7 +31,7 @@ pub fn step_unary(
 ) -> Put
     requires { ⌜ Read (formOf f) (now left) × (familyOf c ≡ Fam.Unary) ⌝ }
     requires { ⌜ Buffers (familyOf c) (formOf f) (now left) (now left) (now first) (now second) (now out) × Lent (familyOf c) (formOf f) (now left) (now left) (now us) (now us) (now store) (now hints) (now first) (now second) ⌝ }
-    ensures { λ r. ⌜ (stepIn r (now (out .exit)) ≡ andThen (deriveUnary (formOf f .categoryLimit) c (decode (formOf f) (now (left .entry)))) (λ s. ok (encode (formOf f) s))) × Held r (length (now (out .entry))) ⌝ }
+    ensures { λ r. ⌜ (stepIn r (now (out .exit)) ≡ andThen (deriveUnary (formOf f) c (decode (formOf f) (now (left .entry)))) (λ s. ok (encode (formOf f) s))) × Held r (length (now (out .entry))) ⌝ }
 {
     let h = base::read_head(f, left);
     let k = orders::unary_code(h);
@@ -83,7 +83,7 @@ pub fn step_pair(
 ) -> Put
     requires { ⌜ Read (formOf f) (now left) × Read (formOf f) (now right) × (familyOf c ≡ Fam.Pair) ⌝ }
     requires { ⌜ Buffers (familyOf c) (formOf f) (now left) (now right) (now first) (now second) (now out) × Lent (familyOf c) (formOf f) (now left) (now right) (now us) (now bs) (now store) (now hints) (now first) (now second) ⌝ }
-    ensures { λ r. ⌜ (stepIn r (now (out .exit)) ≡ andThen (derivePair (formOf f .categoryLimit) c (decode (formOf f) (now (left .entry))) (decode (formOf f) (now (right .entry)))) (λ s. ok (encode (formOf f) (withNode (pos node) s)))) × Held r (length (now (out .entry))) ⌝ }
+    ensures { λ r. ⌜ (stepIn r (now (out .exit)) ≡ andThen (derivePair (formOf f) c (decode (formOf f) (now (left .entry))) (decode (formOf f) (now (right .entry)))) (λ s. ok (encode (formOf f) (withNode (pos node) s)))) × Held r (length (now (out .entry))) ⌝ }
 {
     let l = base::read_head(f, left);
     let r = base::read_head(f, right);
@@ -141,7 +141,7 @@ pub fn step_copy(
 ) -> Put
     requires { ⌜ Read (formOf f) (now left) × Read (formOf f) (now right) × (familyOf c ≡ Fam.Copy) ⌝ }
     requires { ⌜ Buffers (familyOf c) (formOf f) (now left) (now right) (now first) (now second) (now out) × Lent (familyOf c) (formOf f) (now left) (now right) (now us) (now bs) (now store) (now hints) (now first) (now second) ⌝ }
-    ensures { λ r. ⌜ (stepIn r (now (out .exit)) ≡ andThen (deriveCopy (formOf f .categoryLimit) c (decode (formOf f) (now (left .entry))) (decode (formOf f) (now (right .entry)))) (λ s. ok (encode (formOf f) s))) × Held r (length (now (out .entry))) ⌝ }
+    ensures { λ r. ⌜ (stepIn r (now (out .exit)) ≡ andThen (deriveCopy (formOf f) c (decode (formOf f) (now (left .entry))) (decode (formOf f) (now (right .entry)))) (λ s. ok (encode (formOf f) s))) × Held r (length (now (out .entry))) ⌝ }
 {
     let l = base::read_head(f, left);
     let r = base::read_head(f, right);

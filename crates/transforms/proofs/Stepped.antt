@@ -51,7 +51,7 @@ module _ (F : Form) where
           go false one two bytes e = rw (refused-code (read F right) e h)
 
       pub step-alone :
-          f ≡ Fam.Unary → andThen (deriveUnary (F .categoryLimit) c (decode F left)) (λ s. ok (encode F s)) ≡ step F c node left right
+          f ≡ Fam.Unary → andThen (deriveUnary F c (decode F left)) (λ s. ok (encode F s)) ≡ step F c node left right
       unfolding step stepSheet derive numbered
       step-alone u = rw (left-read, sym family ∙ u)
 
@@ -61,21 +61,21 @@ module _ (F : Form) where
 
         pub step-paired :
             f ≡ Fam.Pair
-            → andThen (derivePair (F .categoryLimit) c (decode F left) (decode F right)) (λ s. ok (encode F (withNode (pos node) s)))
+            → andThen (derivePair F c (decode F left) (decode F right)) (λ s. ok (encode F (withNode (pos node) s)))
             ≡ step F c node left right
         unfolding step stepSheet derive numbered
         step-paired u = rw (left-read, sym family ∙ u, right-read (ap isUnary u))
 
         pub step-copied :
             f ≡ Fam.Copy
-            → andThen (deriveCopy (F .categoryLimit) c (decode F left) (decode F right)) (λ s. ok (encode F s))
+            → andThen (deriveCopy F c (decode F left) (decode F right)) (λ s. ok (encode F s))
             ≡ step F c node left right
         unfolding step stepSheet derive numbered
         step-copied u = rw (left-read, sym family ∙ u, right-read (ap isUnary u))
 
         pub step-pooled :
             f ≡ Fam.Pool
-            → andThen (derivePool (F .categoryLimit) c (decode F left) (decode F right)) (λ s. ok (encode F (withNode (pos node) s)))
+            → andThen (derivePool F c (decode F left) (decode F right)) (λ s. ok (encode F (withNode (pos node) s)))
             ≡ step F c node left right
         unfolding step stepSheet derive numbered
         step-pooled u = rw (left-read, sym family ∙ u, right-read (ap isUnary u))

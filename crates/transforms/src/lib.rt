@@ -24,7 +24,7 @@ fn right_code(f: Form, family: Family, right: &[u8]) -> u32
     checks::check_sheet(f, right)
 }
 
-// The derived sheet at the start of a buffer that holds the longest, or the refusal.
+// The derived sheet at the start of a buffer with room for what may be derived, or the refusal.
 pub fn step(
     f: Form,
     c: Component,

@@ -3,7 +3,7 @@
 --     united-natures  the same, as the nature that is derived and written
 -- Assumes nothing.
 use mathlib.Core.Path.{_≡_, refl, sym, ap, ap₂, _∙_}
-use mathlib.Core.Bool.{Bool, true, false, cond, _&&_}
+use mathlib.Core.Bool.{Bool, false, cond}
 use mathlib.Core.Logic.{⊎-elim}
 use mathlib.Core.List.{List, map}
 use Prim.Native.Nat.{ℕ, _≤_, _<_}
@@ -13,18 +13,16 @@ use lib.ListN.{length, length-map}
 use lib.Dec.{eqb, ltb}
 use mir.Syntax.{w64}
 use mir.Facts.{toZ-pos}
-use borrow.Author.Tests.{leb-true}
 use Rattle.numbers.specs.Result.{Result, ok, refused, andThen}
 use Rattle.numbers.specs.Kind.{eqZ}
 use Rattle.base.specs.Form.{Form, groupCount, listCount, categoryCount, byteAt, natureAt, wholeListsNature, boolListsNature}
 use Rattle.base.specs.Sheet.{Nature, wholeLists, boolLists}
 use Rattle.base.specs.Decode.{asWhole, asBits, categoryAt, lists, natureIn}
-use Rattle.base.specs.Checks.{fieldsFail, numberPermitted, valuePermitted, listsPermitted, naturePermitted}
+use Rattle.base.specs.Checks.{fieldsFail}
 use Rattle.base.specs.Encode.{wholeBits}
-use Rattle.base.proofs.Flags.{and-both}
-use Rattle.base.proofs.Holding.{holds-within}
 use Rattle.base.proofs.Natures.{nature-whole-lists, nature-bool-lists}
-use Rattle.base.proofs.Permitted.{permitted}
+use Rattle.base.proofs.Permitted.{permitted, lists-tested, bool-small}
+use Rattle.base.proofs.Lists.{lists-map, total-map}
 use Rattle.writer.specs.Written.{inWriting}
 use Rattle.category_lists.specs.Categories.{union, united, keptTo}
 use Rattle.category_lists.specs.Columnwise.{eachFrom, spreadOf, lesserOf}
@@ -34,7 +32,7 @@ use Rattle.category_lists.proofs.Columnwise.{pairs-are}
 use Rattle.category_lists.proofs.Gathering.{kept-written}
 use Rattle.calls.specs.Natures.{unitedNature}
 use Rattle.unions.specs.Code.{Uniting, unionOf}
-use Rattle.unions.proofs.Mapped.{united-map, lists-map, total-map, numbers-map, values-map}
+use Rattle.unions.proofs.Mapped.{united-map, numbers-map, values-map}
 
 united-is : {X : Type 0} (same : X → X → Bool) (columns : ℕ) (ls ms : List (List X)) (n : ℕ) → n ≡ lesserOf (spreadOf columns (length ls)) (spreadOf columns (length ms))
     → eachFrom (unionOf same ls ms) n 0 ≡ united same columns ls ms
@@ -44,20 +42,11 @@ united-is same columns ls ms n e = pairs-are same (union same) columns ls ms n e
 -- ---- bool lists
 
 module _ (F : Form) (s : List ℕ) (fields : fieldsFail F s ≡ false) (bools : byteAt F natureAt s ≡ boolListsNature) where
-  tested : listsPermitted F s ≡ true
-  unfolding naturePermitted
-  tested = rw bools at (permitted F s fields .nature)
-
-  -- 01: "bool 0 or 1"
-  small : (k : ℕ) → k < categoryCount F s → categoryAt F s (groupCount F s) (categoryCount F s) k ≤ 1
-  unfolding listsPermitted
-  small k h =
-      let test : ℕ → Bool = λ i. numberPermitted F s i && valuePermitted F s i in
-      let v = and-both (numberPermitted F s k) (valuePermitted F s k) (holds-within test (categoryCount F s) 0 k tested (omega arith) (omega arith)) .1 in
-      leb-true (categoryAt F s (groupCount F s) (categoryCount F s) k) 1 (rw bools at v)
-
   bools-whole : lists F s asWhole ≡ map (map pos) (lists F s asBits)
   bools-whole = lists-map F s asBits asWhole pos (λ k h. let low = small k h in toZ-pos w64 (omega arith))
+    where
+      small : (k : ℕ) → k < categoryCount F s → categoryAt F s (groupCount F s) (categoryCount F s) k ≤ 1
+      small = bool-small F s (lists-tested F s (permitted F s fields .nature) (rw bools) (rw bools)) bools
 
 -- ---- the nature derived, in writing
 
@@ -74,6 +63,7 @@ module _ (F : Form) where
         nature = boolListsNature;
         entries = length-map ns (map pos) i;
         values = total-map pos ns i;
+        text = 0;
         first = numbers-map pos F 0 ns i;
         second = values-map pos wholeBits ns i;
       })))

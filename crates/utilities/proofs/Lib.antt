@@ -6,3 +6,4 @@ pub mod Built
 pub mod Repeated
 pub mod Begins
 pub mod Hints
+pub mod Mapped

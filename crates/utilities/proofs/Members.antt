@@ -1,14 +1,25 @@
--- The first occurrences have just the members of the list. Assumes nothing.
+-- Members of lists.
+--     at-member       what stands at a place is a member
+--     firsts-only, firsts-all, has-member    the first occurrences have just the members of the list
+-- Assumes nothing.
 use mathlib.Core.Path.{_≡_, refl, sym, subst}
 use mathlib.Core.Bool.{Bool, true, false, cond, _||_}
 use mathlib.Core.Logic.{_⊎_, inl, inr, ⊎-elim}
 use mathlib.Core.List.{List, [], _∷_, _++_, List·Memᴰ, List·Memᴰ·head, List·Memᴰ·tail, List·Memᴰ·not-nil, List·Memᴰ·eq-of-singleton, List·Memᴰ·append-cases, Memᴰ·append-left, Memᴰ·append-right, Memᴰ·cast}
+use Prim.Native.Nat.{ℕ, zero, suc, _<_}
+use native.Mathlib.Omega.{arith}
 use lib.Dec.{T}
+use lib.ListN.{length, getD}
 use Rattle.utilities.specs.Lists.{has, noted, firstsFrom, firsts}
 
 -- values that are the same are equal
 abbrev pub Equals : {X : Type 0} → (X → X → Bool) → Type 0
 Equals {X} same = (x y : X) → same x y ≡ true → x ≡ y
+
+pub at-member : {X : Type 0} (xs : List X) (i : ℕ) (d : X) → i < length xs → List·Memᴰ (getD xs i d) xs
+at-member [] i d h = absurd (omega arith)
+at-member (x ∷ xs) zero d h = List·Memᴰ·head refl
+at-member (x ∷ xs) (suc i) d h = List·Memᴰ·tail (at-member xs i d (omega arith))
 
 module _ {X : Type 0} (same : X → X → Bool) where
   -- ---- one value

@@ -8,8 +8,9 @@ use Prim.Native.Nat.{ℕ}
 use lib.IntN.{ℤ}
 use lib.ListN.{length, take}
 use Rattle.base.specs.Form.{Form}
-use Rattle.base.specs.Sheet.{Group, Nature, absent, wholeRange, floatRange, wholeLists, boolLists, floatLists, Fields, Sheet}
-use Rattle.base.specs.Encode.{rangeBytes, listsBytes, natureBytes, groupBytes, frontBytes, encode}
+use Rattle.base.specs.Sheet.{Group, Nature, absent, wholeRange, floatRange, wholeLists, boolLists, floatLists, textLists, Fields, Sheet}
+use Rattle.base.specs.Decode.{asBits}
+use Rattle.base.specs.Encode.{numbersFrom, valuesOf, spotsFrom, areaOf, rangeBytes, listsBytes, natureBytes, groupBytes, frontBytes, encode}
 use Rattle.writer.specs.Written.{firstArray, secondArray, writtenOf, sheetFrom, partsIn}
 use Rattle.writer.specs.declared.Parts.{Parts}
 
@@ -22,6 +23,7 @@ module _ (F : Form) where
   arrays (wholeLists ls) = refl
   arrays (boolLists ls) = refl
   arrays (floatLists ls) = refl
+  arrays (textLists ls) = append-assoc (numbersFrom F 0 (spotsFrom 0 ls)) (valuesOf asBits (spotsFrom 0 ls)) (areaOf ls)
 
   pub sheet-written : (s : Sheet) → encode F s ≡ sheetFrom F (s .fields) (s .node) (s .groups) (writtenOf F (s .nature))
   unfolding encode sheetFrom
@@ -31,7 +33,7 @@ module _ (F : Form) (fields : Fields) (node : ℤ) where
   -- g and gs are the number of the groups and their bytes
   pub sheet-parts :
       (groups : List Group) (p : Parts) (first second : List ℕ) {g : ℕ} {gs : List ℕ} → length groups ≡ g → groupBytes groups ≡ gs
-      → frontBytes F g (p .nature) (p .entries) (p .values) fields node ++ gs ++ take (p .first) first ++ take (p .second) second
+      → frontBytes F g (p .nature) (p .entries) (p .values) (p .text) fields node ++ gs ++ take (p .first) first ++ take (p .second) second
       ≡ sheetFrom F fields node groups (partsIn p first second)
   unfolding sheetFrom
   sheet-parts groups p first second count same = rw (count, same)

@@ -15,4 +15,5 @@ pub record Room (F : Form) (p : Parts) (first second source buf : List ℕ) : Ty
   pub second-held : p .second ≤ length second
   pub entries-fit : p .entries ≤ F .listLimit
   pub values-fit : p .values ≤ F .categoryLimit
+  pub text-fits : p .text ≤ F .textLimit
   pub sheet-fits : entriesAt F (groupCount F source) + p .first + p .second ≤ length buf

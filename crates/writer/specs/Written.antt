@@ -7,9 +7,9 @@ use Rattle.bytes.specs.declared.Put.{Put}
 use Rattle.bytes.specs.declared.Put.the-variants as U
 use Rattle.numbers.specs.Result.{Result, ok, refused, andThen}
 use Rattle.base.specs.Form.{Form}
-use Rattle.base.specs.Sheet.{Group, Nature, absent, wholeRange, floatRange, wholeLists, boolLists, floatLists, Fields}
+use Rattle.base.specs.Sheet.{Group, Nature, absent, wholeRange, floatRange, wholeLists, boolLists, floatLists, textLists, Fields}
 use Rattle.base.specs.Decode.{asBits}
-use Rattle.base.specs.Encode.{wholeBits, floatBits, lowersOf, uppersOf, numbersFrom, valuesOf, frontBytes, groupBytes, natureNumber, entryCount, valueCount}
+use Rattle.base.specs.Encode.{wholeBits, floatBits, lowersOf, uppersOf, numbersFrom, valuesOf, frontBytes, groupBytes, natureNumber, entryCount, valueCount, textSize, spotsFrom, areaOf}
 use Rattle.writer.specs.declared.Parts.{Parts}
 use Rattle.writer.specs.declared.Derived.{Derived}
 use Rattle.writer.specs.declared.Derived.the-variants as D
@@ -19,7 +19,9 @@ pub record Written : Type 0 where
   -- the list count n and the category count t
   pub entries : ℕ
   pub values : ℕ
-  -- lowers and uppers, or list numbers and values
+  -- the size of the text area
+  pub text : ℕ
+  -- lowers and uppers, or list numbers and values, of texts with the area behind them
   pub first : List ℕ
   pub second : List ℕ
 
@@ -31,6 +33,7 @@ module _ (F : Form) where
   firstArray (wholeLists ls) = numbersFrom F 0 ls
   firstArray (boolLists ls) = numbersFrom F 0 ls
   firstArray (floatLists ls) = numbersFrom F 0 ls
+  firstArray (textLists ls) = numbersFrom F 0 (spotsFrom 0 ls)
 
   abbrev pub secondArray : Nature → List ℕ
   secondArray absent = []
@@ -39,12 +42,14 @@ module _ (F : Form) where
   secondArray (wholeLists ls) = valuesOf wholeBits ls
   secondArray (boolLists ls) = valuesOf asBits ls
   secondArray (floatLists ls) = valuesOf asBits ls
+  secondArray (textLists ls) = valuesOf asBits (spotsFrom 0 ls) ++ areaOf ls
 
   abbrev pub writtenOf : Nature → Written
   writtenOf k = record {
     nature = natureNumber k;
     entries = entryCount k;
     values = valueCount k;
+    text = textSize k;
     first = firstArray k;
     second = secondArray k;
   }
@@ -56,7 +61,7 @@ module _ (F : Form) where
   -- the bytes of a sheet with a nature in writing
   unfoldable pub sheetFrom : Fields → ℤ → List Group → Written → List ℕ
   sheetFrom fields node groups w =
-      frontBytes F (length groups) (w .nature) (w .entries) (w .values) fields node ++ groupBytes groups ++ w .first ++ w .second
+      frontBytes F (length groups) (w .nature) (w .entries) (w .values) (w .text) fields node ++ groupBytes groups ++ w .first ++ w .second
 
 -- what a derived nature says, with the two buffers as they are
 abbrev pub partsIn : Parts → List ℕ → List ℕ → Written
@@ -64,6 +69,7 @@ partsIn p f s = record {
   nature = p .nature;
   entries = p .entries;
   values = p .values;
+  text = p .text;
   first = take (p .first) f;
   second = take (p .second) s;
 }
@@ -80,10 +86,15 @@ module _ (F : Form) where
   abbrev pub listsRoom : ℕ
   listsRoom = (F .numberWidth + 8) * F .categoryLimit
 
+  -- .. and of texts, with their area
+  abbrev pub textsRoom : ℕ
+  textsRoom = listsRoom + F .textLimit
+
   -- a nature's parts keep to the sheet's limits, to the two buffers, and together to `room`
   pub record Placed (room : ℕ) (first second : List ℕ) (p : Parts) : Type 0 where
     pub entries : p .entries ≤ F .listLimit
     pub values : p .values ≤ F .categoryLimit
+    pub text : p .text ≤ F .textLimit
     pub first-held : p .first ≤ length first
     pub second-held : p .second ≤ length second
     pub both : p .first + p .second ≤ room

@@ -18,10 +18,13 @@ use base::form;
 use base::form::Form;
 use bytes::Put;
 
-// A derived nature whose two arrays stand at the start of two lent buffers: lowers and uppers of a range, or list numbers and values of categories.
+// A derived nature whose two arrays stand at the start of two lent buffers: lowers and uppers of a range, or list numbers and values of categories, behind
+// which texts have their area.
 pub struct Parts {
     // Its number in 01.
     pub nature: u8,
+    // The size of the text area, of 16 bits: it lies beside the nature, so that these parts are no longer to copy than without it.
+    pub text: u16,
     // The list count n and the category count t.
     pub entries: usize,
     pub values: usize,
@@ -164,17 +167,17 @@ fn put_presence(buf: &mut [u8], at: usize, head: Head) -> usize
     bytes::put_u8(buf, end, plain_mark(sample))
 }
 
-// 01's bytes 6 to 31; the last 7 are zero.
-fn put_marks(buf: &mut [u8], at: usize, nature: u8, head: Head) -> usize
+// 01's bytes 6 to 31: the size of the text area between zeros at the end.
+fn put_marks(buf: &mut [u8], at: usize, nature: u8, text: u16, head: Head) -> usize
     requires { ⌜ at + 26 ≤ length (now buf) ⌝ }
-    ensures { λ r. ⌜ Wrote (now (buf .entry)) at 26 (markBytes nature (headFields head)) (now (buf .exit)) r ⌝ }
+    ensures { λ r. ⌜ Wrote (now (buf .entry)) at 26 (markBytes nature text (headFields head)) (now (buf .exit)) r ⌝ }
 {
     let end = put_flags(buf, at, nature, head);
     let end = bytes::put_u32(buf, end, head.c_stability);
     let end = bytes::put_u32(buf, end, head.aggregator);
     let end = put_presence(buf, end, head);
     let end = bytes::put_u8(buf, end, 0);
-    let end = bytes::put_u16(buf, end, 0);
+    let end = bytes::put_u16(buf, end, text);
     bytes::put_u32(buf, end, 0)
 }
 
@@ -208,11 +211,11 @@ fn put_gap(f: Form, buf: &mut [u8], at: usize) -> usize
 
 // All that stands before the arrays.
 fn put_front(f: Form, buf: &mut [u8], groups: usize, p: Parts, head: Head, node: i64) -> usize
-    requires { ⌜ (formOf f .arraysAt ≤ length (now buf)) × (groups ≤ formOf f .groupLimit) × (p .entries ≤ formOf f .listLimit) × (p .values ≤ formOf f .categoryLimit) ⌝ }
-    ensures { λ r. ⌜ Wrote (now (buf .entry)) 0 (formOf f .arraysAt) (frontBytes (formOf f) groups (p .nature) (p .entries) (p .values) (headFields head) node) (now (buf .exit)) r ⌝ }
+    requires { ⌜ (formOf f .arraysAt ≤ length (now buf)) × (groups ≤ formOf f .groupLimit) × (p .entries ≤ formOf f .listLimit) × (p .values ≤ formOf f .categoryLimit) × (p .text ≤ formOf f .textLimit) ⌝ }
+    ensures { λ r. ⌜ Wrote (now (buf .entry)) 0 (formOf f .arraysAt) (frontBytes (formOf f) groups (p .nature) (p .entries) (p .values) (p .text) (headFields head) node) (now (buf .exit)) r ⌝ }
 {
     let end = put_sizes(f, buf, 0, groups, p.entries, p.values);
-    let end = put_marks(buf, end, p.nature, head);
+    let end = put_marks(buf, end, p.nature, p.text, head);
     let end = put_values(buf, end, head);
     let end = bytes::put_i64(buf, end, node);
     put_gap(f, buf, end)

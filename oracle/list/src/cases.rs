@@ -1,6 +1,7 @@
 //! Named cases: document 01's worked examples, and inputs on which a reading
-//! of it can go wrong. Each says the answer that is expected. Pool's stand by
-//! themselves, since the original has no answer to them.
+//! of it and of document 02 can go wrong. Each says the answer that is expected.
+//! Pool's, and texts that are no UTF-8, stand by themselves, since the original
+//! has no answer to them.
 
 use crate::form::{Answer, Call};
 use crate::sheet::{Sheet, LONGEST};
@@ -74,6 +75,8 @@ pub fn all() -> Vec<Case> {
         CATEGORIES,
         SIX_TO_EIGHT,
         FIELDS,
+        AREA,
+        TEXTS,
     ];
     let rows = tables.into_iter().flatten();
     let mut cases: Vec<Case> = rows.map(Case::new).collect();
@@ -99,6 +102,11 @@ pub fn pool() -> Vec<Case> {
     let (call, short) = (["W[1,2]", "W[-3,5]"], (NODE, 97));
     cases.push(Case::at("Pool into 97 bytes of 98", 10, call, short, "27"));
     cases
+}
+
+/// Texts that are no UTF-8, for whoever takes any bytes.
+pub fn raw() -> Vec<Case> {
+    RAW.iter().map(Case::new).collect()
 }
 
 /// Document 01's worked examples alone.
@@ -203,7 +211,8 @@ const BYTES: &[Row] = &[
     ("nullity 2", 1, "W[1,2] @8=2", "empty", "4"),
     ("ordered 2", 1, "W[1,2] @11=2", "empty", "4"),
     ("data type 5", 1, "W[1,2] @7=5", "empty", "4"),
-    ("nature 6", 1, "W{} @6=6", "empty", "4"),
+    ("nature 6", 1, "W{} @6=6", "empty", "22"),
+    ("nature 7", 1, "W{} @6=7", "empty", "4"),
     ("any Str key", 1, "W[1,2] groups=1:s-9223372036854775808", "empty", "W[1,2] groups=1:s-9223372036854775808"),
 ];
 
@@ -520,6 +529,136 @@ const POOLED: &[Row] = &[
     ("Pool: right's columns absent", 10, "W[1,2]", "W[1,2] columns=_", "11"),
     ("Pool: 12 before 14", 10, "W[1,2]", "W[1,2] columns=2 type=Float", "12"),
     ("Pool: other types", 10, "W[1,2]", "W[1,2] type=Float", "14"),
+    ("Pool unites texts", 10, "T{north,south} type=Str", "T{east,north,_} type=Str", "T{north,south,east,_} type=Str rows=2"),
+    ("Pool: repeats of an operand go", 10, "T{a,b,a}", "T{c,b,c}", "T{a,b,c}"),
+    ("Pool: texts list by list", 10, "T{a}{b} columns=2", "T{b}{b} columns=2", "T{a,b}{b} columns=2"),
+    ("Pool: whole and text categories", 10, "W{1}", "T{1}", "21"),
+    ("Pool: text and Bool categories", 10, "T{1}", "B{1}", "21"),
+    ("Pool: texts beside a range", 10, "T{a}", "W[1,2]", "absent"),
+    ("Pool: texts without lists", 10, "T{a}", "Tlists", "20"),
+    ("Pool: 1,025 bytes of text", 10, "T{a*1000}", "T{b*25}", "28"),
+    ("Pool: 1,024 bytes of text", 10, "T{a*1000}", "T{b*24}", "T{a*1000,b*24}"),
+    ("Pool: the same 1,000 bytes", 10, "T{a*1000}", "T{a*1000}", "T{a*1000}"),
+    ("Pool: texts over four columns", 10, "T{a*250} columns=4", "T{b*7} columns=4", "28"),
+    ("Pool: the rows' 24 before 28", 10, "T{a*1000} rows=9223372036854775807", "T{b*25}", "24"),
+    ("Pool: 26 before 28", 10, "T{100#10}", "T{29#11}", "26"),
+    ("Pool: an area under a range", 10, "W[1,2] @26=1 length=99", "W[1,2]", "4"),
+];
+
+/// The text area's 3 and 4 (document 02, S-2).
+#[rustfmt::skip] // one case a line
+const AREA: &[Row] = &[
+    ("a range with an area's size", 9, "W[1,2] @26=1", "empty", "3"),
+    ("a range with an area", 9, "W[1,2] @26=1 length=99", "empty", "4"),
+    ("the high byte of an area's size", 9, "W[1,2] @27=1", "empty", "3"),
+    ("a range with an area of 256", 9, "W[1,2] @27=1 length=354", "empty", "4"),
+    ("a range with an area of 1,024", 9, "W[1,2] @27=4 length=1122", "empty", "4"),
+    ("a range with an area of 1,025", 9, "W[1,2] @26=1 @27=4 length=1123", "empty", "3"),
+    ("an absent nature with an area", 9, "absent @26=1 length=81", "empty", "4"),
+    ("whole categories with an area", 9, "W{1} @26=1 length=90", "empty", "4"),
+    ("Bool categories with an area", 9, "B{1} @26=1 length=90", "empty", "4"),
+    ("float categories with an area", 9, "F{1.0} @26=1 length=90", "empty", "4"),
+    ("an unknown nature with an area's size", 9, "absent @6=9 @26=1", "empty", "3"),
+    ("an unknown nature with an area", 9, "absent @6=9 @26=1 length=81", "empty", "4"),
+    ("an area and a crossed range", 9, "W[2,1] @26=1 length=99", "empty", "4"),
+    ("right's area under a range", 2, "W[1,2]", "W[1,2] @26=1 length=99", "4"),
+    ("a full area", 2, "T{a*1024}", "T{_}", "T{a*1024}"),
+    ("a text of 1,025", 2, "T{a*1025}", "T{_}", "3"),
+    ("texts of 1,025", 2, "T{a*1000,b*25}", "T{_}", "3"),
+    ("a text sheet without its last byte", 2, "T{ab} length=90", "T{_}", "3"),
+    ("a text sheet with a byte more", 2, "T{ab} length=92", "T{_}", "3"),
+    ("a text sheet without its area", 2, "T{ab} @26=0 length=89", "T{_}", "4"),
+    ("an empty text behind all", 2, "T{ab,_}", "T{_}", "T{ab,_}"),
+    ("an empty text in front", 2, "T{_,ab}", "T{_}", "T{_,ab}"),
+    ("texts in another order", 2, "T{a,b} @82=1 @90=0", "T{_}", "4"),
+    ("texts that share bytes", 2, "T{a,b} @86=2 @90=0 @94=2", "T{_}", "4"),
+    ("a last end before the area's", 2, "T{a,b} @94=0", "T{_}", "4"),
+    ("a gap", 2, "T{a,b} @86=0", "T{_}", "4"),
+    ("a last end behind the area's", 2, "T{a,b} @94=2", "T{_}", "4"),
+    ("an empty text with no running start", 2, "T{ab,_} @90=0", "T{_}", "4"),
+    ("lengths that wrap to the area's end", 2, "T{a,b} @86=255 @87=255 @88=255 @89=255 @90=255 @91=255 @92=255 @93=255 @94=3", "T{_}", "4"),
+    ("a length of 2^32 - 1", 2, "T{a} @85=255 @86=255 @87=255 @88=255", "T{_}", "4"),
+    ("a start of 2^31", 2, "T{a} @84=128", "T{_}", "4"),
+    ("starts run over all lists", 2, "T{a}{b} columns=2", "T{_} columns=2", "T{a}{b} columns=2"),
+    ("starts that begin anew in each list", 2, "T{a}{b} columns=2 @90=0", "T{_} columns=2", "4"),
+    ("no texts over an area", 2, "T{} @26=1 length=81", "T{_}", "4"),
+    ("no texts", 2, "T{}", "T{a}", "T{}"),
+    ("falling list numbers of texts", 2, "T{a}{b} columns=2 @80=1 @81=0", "T{_} columns=2", "4"),
+    ("a text's list number is n", 2, "T{a} @80=1", "T{_}", "4"),
+    ("n = 0 under a text", 2, "T{a} @2=0", "T{_}", "4"),
+    ("byte 25 beside an area", 2, "T{a} @25=1", "T{_}", "4"),
+    ("byte 28 beside an area", 2, "T{a} @28=1", "T{_}", "4"),
+    ("byte 31 beside an area", 2, "T{a} @31=128", "T{_}", "4"),
+    ("nature 7 with texts", 2, "T{a} @6=7", "T{_}", "4"),
+];
+
+/// Texts under the nine components (document 02, S-2).
+#[rustfmt::skip] // one case a line
+const TEXTS: &[Row] = &[
+    ("Add {N,S},{1,2}", 2, "T{N,S} type=Str", "T{1,2} type=Str", "T{N1,N2,S1,S2} type=Str"),
+    ("Add joins left and then right", 2, "T{1}", "T{N}", "T{1N}"),
+    ("joins that collapse", 2, "T{a,ab}", "T{bc,c}", "T{abc,ac,abbc}"),
+    ("ab and nothing are a and b", 2, "T{ab,a}", "T{_,b}", "T{ab,abb,a}"),
+    ("the empty text and x", 2, "T{_,x}", "T{_,x}", "T{_,x,xx}"),
+    ("joins of one length", 2, "T{a,b}", "T{c,d}", "T{ac,ad,bc,bd}"),
+    ("repeats of texts go before the joins", 2, "T{a,b,a}", "T{c,c}", "T{ac,bc}"),
+    ("repeats that fill the area", 2, "T{a*512,a*512}", "T{_}", "T{a*512}"),
+    ("texts of several bytes to a character", 2, "T{\u{e9},\u{20ac}}", "T{\u{1f6b0}}", "T{\u{e9}\u{1f6b0},\u{20ac}\u{1f6b0}}"),
+    ("no normal forms", 2, "T{\u{e9},e\u{301}}", "T{_}", "T{\u{e9},e\u{301}}"),
+    ("short lists of texts are not padded", 2, "T{a}{b} columns=3", "T{x} columns=3", "T{ax}{bx} columns=3"),
+    ("texts over three columns", 2, "T{a,b}", "T{x} columns=3", "T{ax,bx}*3 columns=3"),
+    ("repeats of texts go list by list", 2, "T{a}{a,a} columns=2", "T{_} columns=2", "T{a}{a} columns=2"),
+    ("Abs of texts", 1, "T{a}", "empty", "22"),
+    ("Negative of texts", 9, "T{a}", "empty", "22"),
+    ("Negative of an empty list of texts", 9, "T{}", "empty", "22"),
+    ("Subtract of texts", 3, "T{a}", "T{a}", "22"),
+    ("Multiply of texts", 4, "T{a}", "T{a}", "22"),
+    ("Divide of texts", 5, "T{a}", "T{a}", "22"),
+    ("Float Power of texts", 8, "T{a} type=Float", "T{a} type=Float", "22"),
+    ("Int Power by texts", 8, "T{a}", "T{a}", "15"),
+    ("Modulo by texts", 6, "T{a}", "T{a}", "15"),
+    ("Modulo of a range by texts", 6, "W[1,2]", "T{a}", "15"),
+    ("Log of texts", 7, "T{a} type=Float", "F[2.0,3.0]", "15"),
+    ("Log by texts", 7, "F[2.0,3.0] type=Float", "T{a}", "15"),
+    ("Modulo of texts by a range", 6, "T{abc}", "W[3,8]", "absent"),
+    ("Int Power of texts by a range", 8, "T{abc}", "W[3,8]", "absent"),
+    ("Float Power of a range by texts", 8, "W[1,2] type=Float", "T{abc} type=Float", "absent"),
+    ("texts beside a range", 2, "T{abc}", "W[3,8]", "absent"),
+    ("a range beside texts", 4, "F[0.5,1.5]", "T{abc}", "absent"),
+    ("texts beside an absent nature", 3, "T{abc}", "absent", "absent"),
+    ("Divide's nullity: texts", 5, "W[1,2]", "T{_}", "absent nullity=0"),
+    ("text and whole categories", 2, "T{a}", "W{1}", "21"),
+    ("Bool and text categories", 4, "B{1}", "T{1}", "21"),
+    ("21 before the 22 of texts", 3, "T{a}", "W{1}", "21"),
+    ("text and float categories", 2, "T{a}", "F{1.0}", "19"),
+    ("float and text categories", 2, "F{1.0}", "T{a}", "19"),
+    ("texts without lists", 2, "Tlists", "T{a}", "20"),
+    ("Negative of texts without lists", 9, "Tlists", "empty", "20"),
+    ("texts without lists beside whole ones", 2, "Tlists", "W{1}", "20"),
+    ("texts of types Str and Int", 2, "T{a} type=Str", "T{a}", "14"),
+    ("1,024 bytes of text", 2, "T{a*600}", "T{b*424}", "T{a*600+b*424}"),
+    ("1,025 bytes of text", 2, "T{a*600}", "T{b*425}", "28"),
+    ("256 bytes over four columns", 2, "T{a*256} columns=4", "T{_} columns=4", "T{a*256}*4 columns=4"),
+    ("257 bytes over four columns", 2, "T{a*257} columns=4", "T{_} columns=4", "28"),
+    ("257 bytes spread over four columns", 2, "T{a*257}", "T{_} columns=4", "28"),
+    ("132 joins of 100 bytes: 26 before 28", 2, "T{12#50}", "T{11#50}", "26"),
+    ("121 joins of 100 bytes", 2, "T{11#50}", "T{11#50}", "28"),
+    ("400 joins of which 39 are left", 2, "T{a*0..19}", "T{a*0..19}", "T{a*0..38}"),
+    ("900 joins of which 59 are left", 2, "T{a*0..29}", "T{a*0..29}", "28"),
+    ("128 joins", 2, "T{16#4}", "T{8#4}", "T{16#4+8#4}"),
+    ("129 joins", 2, "T{43#1}", "T{3#1}", "26"),
+];
+
+/// Texts that are no UTF-8.
+#[rustfmt::skip] // one case a line
+const RAW: &[Row] = &[
+    ("a character in two halves", 2, "T{\\e2\\82}", "T{\\ac}", "T{\\e2\\82\\ac}"),
+    ("bytes of no character", 2, "T{\\ff,\\c0\\80}", "T{\\80,_}", "T{\\ff\\80,\\ff,\\c0\\80\\80,\\c0\\80}"),
+    ("joins of bytes that collapse", 2, "T{\\ff,\\ff\\fe}", "T{\\fe\\fd,\\fd}", "T{\\ff\\fe\\fd,\\ff\\fd,\\ff\\fe\\fe\\fd}"),
+    ("Pool of bytes", 10, "T{\\ff,\\00}", "T{\\00,\\fe,\\ff}", "T{\\ff,\\00,\\fe}"),
+    ("Negative of bytes", 9, "T{\\ff}", "empty", "22"),
+    ("Modulo of bytes by a range", 6, "T{\\ff}", "W[3,8]", "absent"),
+    ("bytes over 1,024", 2, "T{\\ff*600}", "T{\\fe*425}", "28"),
 ];
 
 /// Cases that turn on the node or on the output's length.
@@ -544,10 +683,16 @@ const OUTPUTS: &[OutputRow] = &[
     ("24 before 27", 9, "W[-9223372036854775808,0]", "empty", 1, 0, "24"),
     ("26 before 27", 2, "W{0..99}", "W{0..29}", 1, 0, "26"),
     ("2 before 27", 200, "W[1,2]", "W[1,2]", 1, 0, "2"),
-    ("the longest sheet", 9, "W{1..128} groups=1:i1,2:i2,3:i3,4:i4", "empty", 1, 1284, "W{-1,-2,-3,-4,-5,-6,-7,-8,-9,-10,-11,-12,-13,-14,-15,-16,-17,-18,-19,-20,-21,-22,-23,-24,-25,-26,-27,-28,-29,-30,-31,-32,-33,-34,-35,-36,-37,-38,-39,-40,-41,-42,-43,-44,-45,-46,-47,-48,-49,-50,-51,-52,-53,-54,-55,-56,-57,-58,-59,-60,-61,-62,-63,-64,-65,-66,-67,-68,-69,-70,-71,-72,-73,-74,-75,-76,-77,-78,-79,-80,-81,-82,-83,-84,-85,-86,-87,-88,-89,-90,-91,-92,-93,-94,-95,-96,-97,-98,-99,-100,-101,-102,-103,-104,-105,-106,-107,-108,-109,-110,-111,-112,-113,-114,-115,-116,-117,-118,-119,-120,-121,-122,-123,-124,-125,-126,-127,-128} groups=1:i1,2:i2,3:i3,4:i4"),
-    ("the longest sheet, one byte short", 9, "W{1..128} groups=1:i1,2:i2,3:i3,4:i4", "empty", 1, 1283, "27"),
-    ("the node is unsigned", 2, "W[1,2]", "W[10,20]", 4294967295, 1284, "W[11,22] node=4294967295"),
-    ("node 0", 4, "W[1,2]", "W[10,20]", 0, 1284, "W[10,40] node=0"),
+    ("the longest sheet without texts", 9, "W{1..128} groups=1:i1,2:i2,3:i3,4:i4", "empty", 1, 1284, "W{-1,-2,-3,-4,-5,-6,-7,-8,-9,-10,-11,-12,-13,-14,-15,-16,-17,-18,-19,-20,-21,-22,-23,-24,-25,-26,-27,-28,-29,-30,-31,-32,-33,-34,-35,-36,-37,-38,-39,-40,-41,-42,-43,-44,-45,-46,-47,-48,-49,-50,-51,-52,-53,-54,-55,-56,-57,-58,-59,-60,-61,-62,-63,-64,-65,-66,-67,-68,-69,-70,-71,-72,-73,-74,-75,-76,-77,-78,-79,-80,-81,-82,-83,-84,-85,-86,-87,-88,-89,-90,-91,-92,-93,-94,-95,-96,-97,-98,-99,-100,-101,-102,-103,-104,-105,-106,-107,-108,-109,-110,-111,-112,-113,-114,-115,-116,-117,-118,-119,-120,-121,-122,-123,-124,-125,-126,-127,-128} groups=1:i1,2:i2,3:i3,4:i4"),
+    ("the longest sheet without texts, one byte short", 9, "W{1..128} groups=1:i1,2:i2,3:i3,4:i4", "empty", 1, 1283, "27"),
+    ("the longest sheet", 2, "T{127#8,a*8}", "T{_} groups=1:i1,2:i2,3:i3,4:i4", 1, LONGEST, "T{127#8,a*8} groups=1:i1,2:i2,3:i3,4:i4"),
+    ("the longest sheet, one byte short", 2, "T{127#8,a*8}", "T{_} groups=1:i1,2:i2,3:i3,4:i4", 1, LONGEST - 1, "27"),
+    ("105 bytes of texts", 2, "T{pump,fan}", "T{_}", 1, 105, "T{pump,fan}"),
+    ("104 bytes for 105 of texts", 2, "T{pump,fan}", "T{_}", 1, 104, "27"),
+    ("28 before 27", 2, "T{a*600}", "T{b*425}", 1, 0, "28"),
+    ("80 bytes for Modulo of texts", 6, "T{abc}", "W[3,8]", 1, 80, "absent"),
+    ("the node is unsigned", 2, "W[1,2]", "W[10,20]", 4294967295, LONGEST, "W[11,22] node=4294967295"),
+    ("node 0", 4, "W[1,2]", "W[10,20]", 0, LONGEST, "W[10,40] node=0"),
 ];
 
 #[cfg(test)]

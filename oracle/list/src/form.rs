@@ -11,7 +11,7 @@ pub const POOL: u32 = 10;
 pub enum Mark {
     /// The original text's.
     Rust,
-    /// Document 01's additions: 2 to 5, 26, 27, and 24 by unchecked arithmetic.
+    /// The documents' additions: 2 to 5, 26, 27, 28, and 24 by unchecked arithmetic.
     Added,
     /// The project's decision on Log over two whole ranges.
     Decided,
@@ -173,7 +173,7 @@ mod tests {
     #[test]
     fn a_line_comes_back() {
         for text in [
-            "2 0 00ff - 1284 0 10 rust",
+            "2 0 00ff - 2308 0 10 rust",
             "4294967295 4294967295 - - 0 2 - added",
             "7 1 0a 0b 98 15 - decided",
         ] {

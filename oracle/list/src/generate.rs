@@ -3,6 +3,7 @@
 
 mod disturb;
 mod numbers;
+mod texts;
 
 use crate::form::{Call, POOL};
 use crate::random::Random;
@@ -61,9 +62,9 @@ pub fn call_towards(random: &mut Random, component: u32, aims: [u32; 2]) -> Call
         } else {
             &mut right
         };
-        disturb::bytes(random, aim, side);
+        damage(random, aim, side);
     } else if random.percent(2) {
-        disturb::bytes(random, 4, &mut left);
+        damage(random, 4, &mut left);
     }
     Call {
         component,
@@ -71,6 +72,15 @@ pub fn call_towards(random: &mut Random, component: u32, aims: [u32; 2]) -> Call
         left,
         right,
         out_len: usize::MAX,
+    }
+}
+
+/// Damage that leaves texts UTF-8, as the original asks: others are not damaged.
+fn damage(random: &mut Random, aim: u32, bytes: &mut Vec<u8>) {
+    let before = bytes.clone();
+    disturb::bytes(random, aim, bytes);
+    if Sheet::decode(bytes).is_ok_and(|sheet| !sheet.nature.is_utf8()) {
+        *bytes = before;
     }
 }
 
@@ -194,17 +204,28 @@ fn natures(
 
 /// Natures by the numbers of byte 6.
 fn kinds(random: &mut Random, component: u32, float_type: bool) -> (u8, u8) {
-    let any = [0, 1, 2, 3, 4, 5];
+    let any = [0, 1, 2, 3, 4, 5, 6];
     let often = random.percent(80);
     match component {
         // What Divide's nullity reads, with a left that lets it be written.
-        5 if random.percent(12) => random.pick(&[(0, 5), (1, 5), (2, 5), (0, 2), (3, 2)]),
-        6 if float_type && often => random.pick(&[(2, 2), (2, 2), (1, 1), (0, 2), (3, 2)]),
-        6 if often => random.pick(&[(1, 1), (1, 1), (1, 1), (0, 1), (3, 1), (4, 1)]),
+        5 if random.percent(12) => random.pick(&[(0, 5), (1, 5), (2, 5), (0, 2), (3, 2), (1, 6)]),
+        6 if float_type && often => random.pick(&[(2, 2), (2, 2), (1, 1), (0, 2), (3, 2), (6, 2)]),
+        6 if often => random.pick(&[(1, 1), (1, 1), (1, 1), (0, 1), (3, 1), (4, 1), (6, 1)]),
         7 if often => random.pick(&[(2, 2), (2, 2), (2, 2), (2, 2), (1, 1)]),
-        8 if float_type && often => random.pick(&[(2, 2), (1, 1), (2, 0), (0, 5), (1, 3)]),
-        8 if often => random.pick(&[(1, 1), (1, 1), (0, 1), (3, 1), (5, 1)]),
-        POOL if often => random.pick(&[(1, 1), (1, 1), (2, 2), (2, 2), (3, 3), (3, 3), (4, 4)]),
+        8 if float_type && often => random.pick(&[(2, 2), (1, 1), (2, 0), (0, 5), (1, 3), (1, 6)]),
+        8 if often => random.pick(&[(1, 1), (1, 1), (0, 1), (3, 1), (5, 1), (6, 1)]),
+        // What each of the two has a rule for, texts among it.
+        2 if often => random.pick(&[
+            (1, 1),
+            (1, 1),
+            (2, 2),
+            (2, 2),
+            (3, 3),
+            (3, 3),
+            (6, 6),
+            (6, 6),
+        ]),
+        POOL if often => random.pick(&[(1, 1), (2, 2), (2, 2), (3, 3), (3, 3), (4, 4), (6, 6)]),
         1..=5 | 9 if often => {
             random.pick(&[(1, 1), (1, 1), (1, 1), (2, 2), (2, 2), (3, 3), (3, 3)])
         }
@@ -226,6 +247,7 @@ fn nature(random: &mut Random, kind: u8, taste: Taste, columns: i64) -> Nature {
         3 => Nature::WholeLists((0..lists).map(|_| taste.whole_list(random)).collect()),
         4 => Nature::BoolLists((0..lists).map(|_| numbers::bool_list(random)).collect()),
         5 => Nature::FloatLists((0..lists).map(|_| numbers::float_list(random)).collect()),
+        6 => Nature::TextLists(texts::lists(random, lists)),
         _ => Nature::Absent,
     }
 }

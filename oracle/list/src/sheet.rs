@@ -12,9 +12,14 @@ pub const MOST_GROUPS: usize = 4;
 pub const MOST_LISTS: usize = 16;
 pub const MOST_CATEGORIES: usize = 128;
 pub const MOST_COLUMNS: i64 = 16;
-pub const LONGEST: usize = 1284;
+/// Bytes of the text area.
+pub const MOST_TEXT: usize = 1024;
 /// Where the parallel arrays begin.
 pub const HEAD: usize = 80;
+/// The longest sheet, and a plan's slot: 2,308.
+pub const LONGEST: usize = HEAD + 13 * MOST_GROUPS + 9 * MOST_CATEGORIES + MOST_TEXT;
+/// The number of text categories at byte 6.
+pub const TEXT: u8 = 6;
 
 /// A lower and an upper end, each perhaps absent.
 pub type Ends<T> = (Option<T>, Option<T>);
@@ -27,6 +32,8 @@ pub enum Nature {
     WholeLists(Vec<Vec<i64>>),
     BoolLists(Vec<Vec<bool>>),
     FloatLists(Vec<Vec<u64>>),
+    /// Any bytes: only the original asks for UTF-8.
+    TextLists(Vec<Vec<Vec<u8>>>),
 }
 
 impl Nature {
@@ -39,6 +46,7 @@ impl Nature {
             Nature::WholeLists(_) => 3,
             Nature::BoolLists(_) => 4,
             Nature::FloatLists(_) => 5,
+            Nature::TextLists(_) => TEXT,
         }
     }
 
@@ -51,6 +59,7 @@ impl Nature {
             Nature::WholeLists(lists) => lists.len(),
             Nature::BoolLists(lists) => lists.len(),
             Nature::FloatLists(lists) => lists.len(),
+            Nature::TextLists(lists) => lists.len(),
         }
     }
 
@@ -60,8 +69,28 @@ impl Nature {
             Nature::WholeLists(lists) => lists.iter().map(Vec::len).sum(),
             Nature::BoolLists(lists) => lists.iter().map(Vec::len).sum(),
             Nature::FloatLists(lists) => lists.iter().map(Vec::len).sum(),
+            Nature::TextLists(lists) => lists.iter().map(Vec::len).sum(),
             _ => 0,
         }
+    }
+
+    /// The texts in value order; none of another nature.
+    pub fn texts(&self) -> impl Iterator<Item = &Vec<u8>> {
+        let lists: &[Vec<Vec<u8>>] = match self {
+            Nature::TextLists(lists) => lists,
+            _ => &[],
+        };
+        lists.iter().flatten()
+    }
+
+    /// The size of the text area, as the lists would be written.
+    pub fn text_length(&self) -> usize {
+        self.texts().map(Vec::len).sum()
+    }
+
+    /// Whether the original can be handed its texts.
+    pub fn is_utf8(&self) -> bool {
+        self.texts().all(|text| std::str::from_utf8(text).is_ok())
     }
 }
 
@@ -111,6 +140,7 @@ impl Sheet {
             Nature::WholeLists(lists) => encode_lists(&mut out, lists, |v| *v as u64),
             Nature::BoolLists(lists) => encode_lists(&mut out, lists, |v| *v as u64),
             Nature::FloatLists(lists) => encode_lists(&mut out, lists, |v| *v),
+            Nature::TextLists(lists) => encode_texts(&mut out, lists),
         }
         out
     }
@@ -134,7 +164,9 @@ impl Sheet {
         for value in values {
             out.push(value.is_some() as u8);
         }
-        out.extend([0; 7]);
+        out.push(0);
+        out.extend((self.nature.text_length() as u16).to_le_bytes());
+        out.extend([0; 4]);
         for value in values {
             out.extend(value.unwrap_or(0).to_le_bytes());
         }
@@ -192,7 +224,7 @@ fn encode_range<T>(out: &mut Vec<u8>, entries: &[Ends<T>], bits: impl Fn(&T) -> 
     }
 }
 
-fn encode_lists<T>(out: &mut Vec<u8>, lists: &[Vec<T>], bits: impl Fn(&T) -> u64) {
+fn encode_lists<T>(out: &mut Vec<u8>, lists: &[Vec<T>], mut bits: impl FnMut(&T) -> u64) {
     for (number, list) in lists.iter().enumerate() {
         out.extend(list.iter().map(|_| number as u8));
     }
@@ -201,11 +233,23 @@ fn encode_lists<T>(out: &mut Vec<u8>, lists: &[Vec<T>], bits: impl Fn(&T) -> u64
     }
 }
 
-/// The sizes at the front, once check 3 has passed.
+/// A text's value: its start, and its length above.
+fn encode_texts(out: &mut Vec<u8>, lists: &[Vec<Vec<u8>>]) {
+    let mut start = 0;
+    encode_lists(out, lists, |text| {
+        let value = start | (text.len() as u64) << 32;
+        start += text.len() as u64;
+        value
+    });
+    out.extend(lists.iter().flatten().flatten());
+}
+
+/// The sizes at the front and the text area's, once check 3 has passed.
 struct Sizes {
     groups: usize,
     lists: usize,
     categories: usize,
+    text: usize,
 }
 
 impl Sizes {
@@ -218,10 +262,12 @@ impl Sizes {
             groups: size(0),
             lists: size(2),
             categories: size(4),
+            text: size(26),
         };
         let over = sizes.groups > MOST_GROUPS
             || sizes.lists > MOST_LISTS
-            || sizes.categories > MOST_CATEGORIES;
+            || sizes.categories > MOST_CATEGORIES
+            || sizes.text > MOST_TEXT;
         if over || bytes.len() != sizes.length(bytes[6]) {
             return Err(BAD_LENGTH);
         }
@@ -235,7 +281,7 @@ impl Sizes {
         } else {
             9 * self.categories
         };
-        HEAD + 13 * self.groups + tail
+        HEAD + 13 * self.groups + tail + self.text
     }
 }
 
@@ -273,7 +319,7 @@ fn read_fields(bytes: &[u8], sizes: &Sizes) -> Result<Sheet, u32> {
     if columns.is_some_and(|count| !(1..=MOST_COLUMNS).contains(&count)) {
         return Err(BAD_FIELD);
     }
-    if bytes[7] > 4 || bytes[25..32].iter().any(|byte| *byte != 0) {
+    if bytes[7] > 4 || bytes[25] != 0 || bytes[28..32].iter().any(|byte| *byte != 0) {
         return Err(BAD_FIELD);
     }
     Ok(Sheet {
@@ -315,6 +361,9 @@ fn read_groups(bytes: &[u8], count: usize) -> Result<Vec<Group>, u32> {
 fn read_nature(bytes: &[u8], sizes: &Sizes) -> Result<Nature, u32> {
     let nature = bytes[6];
     let at = HEAD + 13 * sizes.groups;
+    if nature != TEXT && sizes.text != 0 {
+        return Err(BAD_FIELD);
+    }
     match nature {
         0 if sizes.lists == 0 && sizes.categories == 0 => Ok(Nature::Absent),
         1 | 2 if sizes.categories == 0 => {
@@ -339,6 +388,7 @@ fn read_nature(bytes: &[u8], sizes: &Sizes) -> Result<Nature, u32> {
             },
         )?)),
         5 => Ok(Nature::FloatLists(read_lists(bytes, at, sizes, Ok)?)),
+        TEXT => Ok(Nature::TextLists(read_texts(bytes, at, sizes)?)),
         _ => Err(BAD_FIELD),
     }
 }
@@ -358,7 +408,7 @@ fn read_lists<T>(
     bytes: &[u8],
     at: usize,
     sizes: &Sizes,
-    value: impl Fn(u64) -> Result<T, u32>,
+    mut value: impl FnMut(u64) -> Result<T, u32>,
 ) -> Result<Vec<Vec<T>>, u32> {
     let mut lists: Vec<Vec<T>> = (0..sizes.lists).map(|_| Vec::new()).collect();
     let mut last = 0;
@@ -371,6 +421,24 @@ fn read_lists<T>(
         lists[number].push(value(word(bytes, at + sizes.categories + 8 * index))?);
     }
     Ok(lists)
+}
+
+/// Texts lie end to end in value order, from 0 to the area's end.
+fn read_texts(bytes: &[u8], at: usize, sizes: &Sizes) -> Result<Vec<Vec<Vec<u8>>>, u32> {
+    let mut rest = &bytes[bytes.len() - sizes.text..];
+    let lists = read_lists(bytes, at, sizes, |value| {
+        let (start, length) = (value as u32 as usize, (value >> 32) as usize);
+        if start != sizes.text - rest.len() || length > rest.len() {
+            return Err(BAD_FIELD);
+        }
+        let (text, behind) = rest.split_at(length);
+        rest = behind;
+        Ok(text.to_vec())
+    })?;
+    match rest {
+        [] => Ok(lists),
+        _ => Err(BAD_FIELD),
+    }
 }
 
 /// Check 5: float ends are finite, and no lower exceeds its upper.
@@ -435,6 +503,23 @@ mod tests {
             bytes("B{1}{0}")[80..],
             [0, 1, 1, 0, 0, 0, 0, 0, 0, 0, 0, 0, 0, 0, 0, 0, 0, 0]
         );
+    }
+
+    #[test]
+    fn texts_lie_behind_the_arrays() {
+        let found = bytes("T{pump,fan}");
+        assert_eq!((found.len(), found[6]), (105, 6));
+        assert_eq!(found[25..32], [0, 7, 0, 0, 0, 0, 0]);
+        assert_eq!(found[80..82], [0, 0]);
+        assert_eq!(found[82..90], [0, 0, 0, 0, 4, 0, 0, 0]);
+        assert_eq!(found[90..98], [4, 0, 0, 0, 3, 0, 0, 0]);
+        assert_eq!(&found[98..], b"pumpfan");
+        let sheet = sheet("T{pump,_}{}{\\e2\\82}");
+        assert_eq!(
+            (sheet.nature.is_utf8(), sheet.nature.text_length()),
+            (false, 6)
+        );
+        assert_eq!(Sheet::decode(&sheet.encode()), Ok(sheet));
     }
 
     #[test]

@@ -58,6 +58,7 @@ fn nature(nature: &Nature) -> String {
         Nature::WholeLists(lists) => categories(lists, |v| format!("{v:+}")),
         Nature::BoolLists(lists) => categories(lists, |v| v.to_string()),
         Nature::FloatLists(lists) => categories(lists, |v| format!("{:+?}", f64::from_bits(*v))),
+        Nature::TextLists(lists) => categories(lists, |v| format!("\"{}\"", v.escape_ascii())),
     }
 }
 
@@ -91,6 +92,7 @@ fn once_if_alike<T: PartialEq>(entries: &[T], text: impl Fn(&T) -> String) -> St
 mod tests {
     use super::line;
     use crate::form::{Answer, Call, Mark};
+    use crate::sheet::LONGEST;
     use crate::text;
 
     fn shown(component: u32, left: &str, right: &str, code: u32, result: &str) -> String {
@@ -99,7 +101,7 @@ mod tests {
             node: 1,
             left: text::bytes(left),
             right: text::bytes(right),
-            out_len: 1284,
+            out_len: LONGEST,
         };
         let bytes = if code == 0 {
             text::bytes(result)
@@ -126,6 +128,14 @@ mod tests {
         assert_eq!(
             shown(4, "F[-0.0,1.5]", "F[0.0,2.0]", 24, ""),
             "Multiply [-0.0, +1.5] [+0.0, +2.0] refused with 24"
+        );
+    }
+
+    #[test]
+    fn texts_are_quoted() {
+        assert_eq!(
+            shown(2, "T{a,_}", "T{\\e2\\82}", 22, ""),
+            "Add {\"a\", \"\"} {\"\\xe2\\x82\"} refused with 22"
         );
     }
 

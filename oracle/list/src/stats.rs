@@ -1,6 +1,7 @@
 //! What a list holds, and whether it holds enough.
 
 use crate::form::{Call, Line, Mark, POOL};
+use crate::sheet::TEXT;
 use std::collections::{BTreeMap, HashMap, HashSet};
 use std::fmt::Write;
 
@@ -15,6 +16,9 @@ const LEAST_ACCEPTED: usize = 100;
 const LEAST_REFUSED: usize = 5;
 const LEAST_EXACT: usize = 200;
 const LEAST_SHORT: usize = 27;
+const LEAST_TEXTS: usize = 40;
+/// What calls with texts are wanted to be refused with.
+const TEXT_CODES: [u32; 9] = [3, 4, 15, 19, 20, 21, 22, 26, 28];
 
 /// Whether a threshold is met, and what to say if not.
 type Want = (bool, String);
@@ -24,7 +28,10 @@ type Want = (bool, String);
 pub fn reachable(component: u32) -> &'static [u32] {
     match component {
         1 | 9 => &[3, 4, 5, 6, 11, 18, 19, 20, 22, 24, 26, 27],
-        2..=4 => &[
+        2 => &[
+            3, 4, 5, 6, 7, 8, 9, 10, 11, 12, 13, 14, 17, 18, 19, 20, 21, 22, 24, 26, 27, 28,
+        ],
+        3 | 4 => &[
             3, 4, 5, 6, 7, 8, 9, 10, 11, 12, 13, 14, 17, 18, 19, 20, 21, 22, 24, 26, 27,
         ],
         5 => &[
@@ -32,7 +39,9 @@ pub fn reachable(component: u32) -> &'static [u32] {
         ],
         6 | 7 => &[3, 4, 5, 6, 7, 8, 11, 14, 15, 16, 17, 18, 27],
         8 => &[3, 4, 5, 6, 7, 8, 11, 14, 15, 16, 17, 18, 19, 20, 21, 22, 27],
-        POOL => &[3, 4, 5, 6, 7, 8, 11, 12, 14, 17, 18, 19, 20, 21, 24, 26, 27],
+        POOL => &[
+            3, 4, 5, 6, 7, 8, 11, 12, 14, 17, 18, 19, 20, 21, 24, 26, 27, 28,
+        ],
         _ => &[2],
     }
 }
@@ -60,6 +69,8 @@ pub struct Stats {
     lengths: [usize; 6],
     /// Accepted calls by the natures of left and right (9 where unread or bad).
     natures: BTreeMap<(u8, u8), usize>,
+    /// Calls that read a sheet with texts, by code.
+    texts: BTreeMap<u32, usize>,
 }
 
 /// The row of the table a component stands in.
@@ -84,6 +95,7 @@ impl Stats {
             outputs: outputs(lines),
             lengths: [0; 6],
             natures: BTreeMap::new(),
+            texts: BTreeMap::new(),
         };
         for line in lines {
             stats.count(line);
@@ -110,10 +122,14 @@ impl Stats {
             200..=499 => 4,
             _ => 5,
         }] += 1;
+        let unary = call.component == 1 || call.component == 9;
+        let right = if unary { 9 } else { nature(&call.right) };
+        let natures = (nature(&call.left), right);
+        if natures.0 == TEXT || natures.1 == TEXT {
+            *self.texts.entry(answer.code).or_default() += 1;
+        }
         if answer.code == 0 {
-            let unary = call.component == 1 || call.component == 9;
-            let right = if unary { 9 } else { nature(&call.right) };
-            *self.natures.entry((nature(&call.left), right)).or_default() += 1;
+            *self.natures.entry(natures).or_default() += 1;
         }
     }
 
@@ -126,6 +142,7 @@ impl Stats {
         let mut wants = self.size_wants();
         wants.extend(self.cell_wants());
         wants.extend(self.output_wants());
+        wants.extend(self.text_wants());
         let missed = wants.into_iter().filter(|(holds, _)| !holds);
         missed.map(|(_, text)| text).collect()
     }
@@ -181,9 +198,22 @@ impl Stats {
             .to_vec()
     }
 
+    /// Enough joined texts, and enough of what texts are refused with.
+    fn text_wants(&self) -> Vec<Want> {
+        let joined = self.natures.get(&(TEXT, TEXT)).copied().unwrap_or(0);
+        let text = format!("{joined} joins of texts, wanted {LEAST_TEXTS}");
+        let mut wants = vec![(joined >= LEAST_TEXTS, text)];
+        for code in TEXT_CODES {
+            let count = self.texts.get(&code).copied().unwrap_or(0);
+            let text = format!("texts give {code} {count} times, wanted {LEAST_REFUSED}");
+            wants.push((count >= LEAST_REFUSED, text));
+        }
+        wants
+    }
+
     /// The table of components and codes, and what stands beside it.
     pub fn table(&self) -> String {
-        let codes = [0].into_iter().chain(2..=27).filter(|code| *code != 25);
+        let codes = [0].into_iter().chain(2..=28).filter(|code| *code != 25);
         let codes: Vec<u32> = codes.collect();
         let mut text = format!("{:10}", "");
         for code in &codes {
@@ -238,6 +268,10 @@ impl Stats {
         );
         for ((left, right), count) in &self.natures {
             let _ = write!(text, " {left}-{right}:{count}");
+        }
+        text.push_str("\ncalls with texts by code:");
+        for (code, count) in &self.texts {
+            let _ = write!(text, " {code}:{count}");
         }
         text.push('\n');
         text

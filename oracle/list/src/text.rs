@@ -1,12 +1,14 @@
 //! Sheets written as short texts, for the named cases.
 //!
 //! The nature comes first: `absent`, `W[1,2][3,_]` (whole range, `_` an absent
-//! end), `F[..]`, `W{1,2}{3}` (whole lists), `B{0,1}`, `F{..}`; without any
-//! list `Wrange`, `Frange`, `Wlists`, `Blists`, `Flists`. `a..b` and `v*k`
-//! inside braces and `*k` behind a bracket repeat. Then options `name=value`;
-//! `@6=9` puts 9 into byte 6 and `length=80` cuts or fills with zeros, once
-//! encoded; `empty` has no bytes at all. A text that says nothing else is of
-//! type Int, releasable, with one row and one column.
+//! end), `F[..]`, `W{1,2}{3}` (whole lists), `B{0,1}`, `F{..}`, `T{pump,fan}`;
+//! without any list `Wrange`, `Frange`, `Wlists`, `Blists`, `Flists`, `Tlists`.
+//! `a..b` and `v*k` inside braces and `*k` behind a bracket repeat. Of texts,
+//! `_` is the empty one, `ab*3` is `ababab`, `a*0..3` are four of them, `12#50`
+//! are twelve different ones of 50 bytes, `a+b` all joins, and `\e2` is a byte.
+//! Then options `name=value`; `@6=9` puts 9 into byte 6 and `length=80` cuts or
+//! fills with zeros, once encoded; `empty` has no bytes at all. What says nothing
+//! else is of type Int, releasable, with one row and one column.
 
 use crate::sheet::{Ends, Group, Key, Nature, Sheet};
 
@@ -149,6 +151,7 @@ fn nature(text: &str) -> Nature {
         "Wlists" => return Nature::WholeLists(Vec::new()),
         "Blists" => return Nature::BoolLists(Vec::new()),
         "Flists" => return Nature::FloatLists(Vec::new()),
+        "Tlists" => return Nature::TextLists(Vec::new()),
         _ => (),
     }
     match &text[..2] {
@@ -157,6 +160,7 @@ fn nature(text: &str) -> Nature {
         "W{" => Nature::WholeLists(parts(&text[1..], whole_list)),
         "B{" => Nature::BoolLists(parts(&text[1..], |part| list(part, |v| v == "1"))),
         "F{" => Nature::FloatLists(parts(&text[1..], |part| list(part, float))),
+        "T{" => Nature::TextLists(parts(&text[1..], text_list)),
         _ => panic!("no nature: {text}"),
     }
 }
@@ -194,4 +198,43 @@ fn whole_list(text: &str) -> Vec<i64> {
         }
     }
     values
+}
+
+fn text_list(text: &str) -> Vec<Vec<u8>> {
+    let mut texts = Vec::new();
+    for word in text.split(',').filter(|word| !word.is_empty()) {
+        if let Some((left, right)) = word.split_once('+') {
+            let right = text_list(right);
+            for l in text_list(left) {
+                texts.extend(right.iter().map(|r| [&l[..], r].concat()));
+            }
+        } else if let Some((count, length)) = word.split_once('#') {
+            let numbers = 0..number::<u8>(count);
+            texts.extend(
+                numbers
+                    .map(|first| [vec![first], vec![b'-'; number::<usize>(length) - 1]].concat()),
+            );
+        } else if let Some((part, count)) = word.split_once('*') {
+            let (first, last) = count.split_once("..").unwrap_or((count, count));
+            let counts = number::<usize>(first)..=number(last);
+            texts.extend(counts.map(|count| raw(part).repeat(count)));
+        } else {
+            texts.push(raw(word));
+        }
+    }
+    texts
+}
+
+/// A word's bytes, `\` and two digits for any other, `_` for none.
+fn raw(word: &str) -> Vec<u8> {
+    if word == "_" {
+        return Vec::new();
+    }
+    let mut parts = word.split('\\');
+    let mut bytes = parts.next().unwrap_or("").as_bytes().to_vec();
+    for part in parts {
+        bytes.push(u8::from_str_radix(&part[..2], 16).expect("two hex digits"));
+        bytes.extend(part[2..].bytes());
+    }
+    bytes
 }

@@ -7,23 +7,25 @@ use crate::root::value;
 use crate::stand_ins::{proto, Component};
 use indexmap::map::IndexMap;
 use oracle_list::form::{hex, Answer, Mark, POOL};
-use oracle_list::sheet::{Nature, Sheet, MOST_CATEGORIES};
+use oracle_list::sheet::{Nature, Sheet, MOST_CATEGORIES, MOST_TEXT};
 use std::cell::Cell;
 use std::panic::{catch_unwind, set_hook, take_hook, AssertUnwindSafe};
 use std::sync::Once;
 
 const LOG: u32 = 7;
 
-/// The answer to a single call, by document 01. The order of the checks 6 to
-/// 25 is the original's own; this function adds 2 to 5 before, 26 and 27 after.
+/// The answer to a single call, by the documents. The order of the checks 6 to
+/// 25 is the original's own; this function adds 2 to 5 before, 26, 28 and 27 after.
 ///
 /// # Panics
-/// If the original ends in a way that has no number, and on two permitted
-/// sheets of Pool, which it has not: nothing of it must pass for an answer.
+/// If the original ends in a way that has no number, and on permitted sheets
+/// that it has no place for: both of Pool's, and texts that are no UTF-8.
+/// Nothing of it must pass for an answer.
 pub fn answer(component: u32, node: u32, left: &[u8], right: &[u8], out_len: usize) -> Answer {
     match accept(component, node, left, right) {
         Err(refusal) => refusal,
         Ok(sheet) if sheet.nature.categories() > MOST_CATEGORIES => refuse(26, Mark::Added),
+        Ok(sheet) if sheet.nature.text_length() > MOST_TEXT => refuse(28, Mark::Added),
         Ok(sheet) => {
             let bytes = sheet.encode();
             if bytes.len() > out_len {
@@ -44,7 +46,7 @@ fn refuse(code: u32, mark: Mark) -> Answer {
     Answer { code, bytes, mark }
 }
 
-/// The derived sheet before 26 and 27, or the refusal.
+/// The derived sheet before 26, 28 and 27, or the refusal.
 fn accept(component: u32, node: u32, left: &[u8], right: &[u8]) -> Result<Sheet, Answer> {
     if !(1..=POOL).contains(&component) {
         return Err(refuse(2, Mark::Added));
@@ -55,14 +57,8 @@ fn accept(component: u32, node: u32, left: &[u8], right: &[u8]) -> Result<Sheet,
         1 | 9 => None,
         _ => Some(decode(right)?),
     };
-    if component == POOL {
-        fail(
-            "the original has no Pool",
-            component,
-            node,
-            &left,
-            right.as_ref(),
-        );
+    if let Some(why) = outside(component, &left, right.as_ref()) {
+        fail(why, component, node, &left, right.as_ref());
     }
     let word = run(component, node, &left, right.as_ref());
     if component == LOG && both_whole(&left, right.as_ref()) && past_the_base(&word) {
@@ -74,6 +70,15 @@ fn accept(component: u32, node: u32, left: &[u8], right: &[u8]) -> Result<Sheet,
         Word::Overflowed => Err(refuse(24, Mark::Added)),
         Word::Fault(text) => fail(&text, component, node, &left, right.as_ref()),
     }
+}
+
+/// Why the original cannot be asked about permitted sheets, if it cannot.
+fn outside(component: u32, left: &Sheet, right: Option<&Sheet>) -> Option<&'static str> {
+    if component == POOL {
+        return Some("the original has no Pool");
+    }
+    let utf8 = left.nature.is_utf8() && right.map_or(true, |sheet| sheet.nature.is_utf8());
+    (!utf8).then_some("a text is no UTF-8")
 }
 
 fn fail(text: &str, component: u32, node: u32, left: &Sheet, right: Option<&Sheet>) -> ! {

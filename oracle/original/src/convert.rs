@@ -8,6 +8,8 @@ use crate::stand_ins::proto::component::Variant;
 use indexmap::IndexMap;
 use oracle_list::sheet::{self, Ends, Group, Key, Sheet};
 
+/// # Panics
+/// On texts that are no UTF-8, which the original cannot hold.
 pub fn to_properties(sheet: &Sheet) -> ArrayProperties {
     ArrayProperties {
         num_records: sheet.rows,
@@ -85,6 +87,11 @@ fn to_nature(nature: &sheet::Nature) -> Option<Nature> {
                 .map(|list| list.iter().copied().map(f64::from_bits).collect())
                 .collect(),
         )),
+        sheet::Nature::TextLists(values) => {
+            let text = |bytes: &Vec<u8>| String::from_utf8(bytes.clone()).expect("UTF-8");
+            let list = |list: &Vec<Vec<u8>>| list.iter().map(text).collect();
+            lists(Jagged::Str(values.iter().map(list).collect()))
+        }
     }
 }
 
@@ -155,7 +162,11 @@ fn from_nature(nature: &Option<Nature>) -> Result<sheet::Nature, String> {
             Jagged::Int(values) => Ok(sheet::Nature::WholeLists(values.clone())),
             Jagged::Bool(values) => Ok(sheet::Nature::BoolLists(values.clone())),
             Jagged::Float(_) => Err("a result has float categories".to_string()),
-            Jagged::Str(_) => Err("a result has text categories".to_string()),
+            Jagged::Str(values) => {
+                let bytes =
+                    |list: &Vec<String>| list.iter().cloned().map(String::into_bytes).collect();
+                Ok(sheet::Nature::TextLists(values.iter().map(bytes).collect()))
+            }
         },
     }
 }

@@ -35,6 +35,7 @@ pub const MESSAGES: &[(u32, u64)] = &[
     (21, 0xd34e9ac62f6c7a2f), // category kinds
     (22, 0x056caf6403f89ab8), // no rule for whole categories
     (22, 0xc4727fa2088d5e6e), // no rule for bool categories
+    (22, 0xc17c23d048e92f77), // no rule for text categories
     (23, 0x93a6630ca664e309), // Divide's ranges
     (24, 0x9079a0f6f689f6d7), // a sum
     (24, 0x7a7a8a32faa1edef), // a difference

@@ -15,6 +15,8 @@ const ACCEPTED: usize = 160;
 const REFUSED: usize = 16;
 const DECIDED: usize = 24;
 const TWOFOLD: usize = 50;
+/// An output longer than any sheet.
+const LONGER: usize = 3000;
 const BAD_COMPONENTS: usize = 12;
 const SHORT_OUTPUTS: usize = 12;
 /// So many draws without a gain loosen the spread over natures.
@@ -59,11 +61,11 @@ fn write_head(seed: u64, out: &mut impl Write) -> io::Result<()> {
     )?;
     writeln!(
         out,
-        "# Marks: rust, the original text's answer; added, what document 01 adds to"
+        "# Marks: rust, the original text's answer; added, what the documents add to"
     )?;
     writeln!(
         out,
-        "# it (2 to 5, 26, 27, and 24 by unchecked arithmetic); decided, Log over two"
+        "# it (2 to 5, 26 to 28, and 24 by unchecked arithmetic); decided, Log over two"
     )?;
     writeln!(out, "# whole ranges, where the project answers 15.")?;
     writeln!(out, "# Made by: oracle list --seed {}", seed)
@@ -88,13 +90,13 @@ pub fn write_generated(seed: u64, count: u64, out: &mut impl Write) -> io::Resul
 fn out_len(random: &mut Random, answer: &Answer) -> usize {
     let length = answer.bytes.len();
     if answer.code != 0 {
-        return random.pick(&[0, 1, 79, 80, 98, LONGEST, LONGEST, 2000]);
+        return random.pick(&[0, 1, 79, 80, 98, LONGEST, LONGEST, LONGER]);
     }
     match random.below(10) {
         0..=3 => length,
         4 => length + 1,
         5 => length + random.below(100),
-        6 => 2000,
+        6 => LONGER,
         _ => LONGEST,
     }
 }
@@ -158,7 +160,7 @@ impl Selection {
     /// Refused calls with two faults: the order of the checks decides.
     fn fill_twofold(&mut self, component: u32) -> Vec<Line> {
         let codes = reachable(component).iter().copied();
-        let aims: Vec<u32> = codes.filter(|code| (6..27).contains(code)).collect();
+        let aims: Vec<u32> = codes.filter(|code| *code > 5 && *code != 27).collect();
         let draw = |random: &mut Random| {
             let both = [random.pick(&aims), random.pick(&aims)];
             call_towards(random, component, both)
@@ -217,6 +219,8 @@ impl Selection {
         let room = match (key.1, key.2, key.3) {
             (0, 1, 1) | (0, 2, 2) | (0, 1, 9) | (0, 2, 9) => 40,
             (0, 3, 3) | (0, 3, 9) => 35,
+            (0, 6, 6) => 40,
+            (28, ..) => REFUSED,
             (0, _, 2 | 5) if key.0 == 5 => 10,
             _ => 4,
         };

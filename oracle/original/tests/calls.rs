@@ -4,7 +4,7 @@ use oracle_list::cases;
 use oracle_list::form::{Call, Mark, POOL};
 use oracle_list::generate::call;
 use oracle_list::random::Random;
-use oracle_list::sheet::Sheet;
+use oracle_list::sheet::{Sheet, LONGEST};
 use oracle_list::stats::reachable;
 use oracle_list::text::bytes;
 use oracle_original::answer;
@@ -33,7 +33,7 @@ fn seeded_calls_give_sheets() {
         if code == 0 {
             let sheet = Sheet::decode_unordered(&line.answer.bytes);
             assert_eq!(sheet.map(|s| s.encode()), Ok(line.answer.bytes.clone()));
-            assert!(line.answer.bytes.len() <= 1284);
+            assert!(line.answer.bytes.len() <= LONGEST);
         } else {
             assert!(reachable(line.call.component).contains(&code), "{}", line);
             assert!(line.answer.bytes.is_empty());
@@ -59,7 +59,7 @@ fn outputs_are_exact() {
 }
 
 fn log(data: &str, base: &str) -> (u32, Mark) {
-    let answer = answer(7, 1, &bytes(data), &bytes(base), 1284);
+    let answer = answer(7, 1, &bytes(data), &bytes(base), LONGEST);
     (answer.code, answer.mark)
 }
 
@@ -86,7 +86,7 @@ fn log_is_the_originals_elsewhere() {
 /// Pool's sheets are checked as all are; two that pass have no answer.
 #[test]
 fn pool_is_not_answered() {
-    let code = |left, right| answer(POOL, 1, &bytes(left), &bytes(right), 1284).code;
+    let code = |left, right| answer(POOL, 1, &bytes(left), &bytes(right), LONGEST).code;
     assert_eq!(code("W[1,2]", "empty"), 3);
     assert_eq!(code("W[1,2] @25=1", "empty"), 4);
     assert_eq!(code("W[1,2]", "W[2,1]"), 5);
@@ -96,11 +96,41 @@ fn pool_is_not_answered() {
     assert!(text.starts_with("oracle failure: the original has no Pool; the call: 10 1 "));
 }
 
+/// Texts that are no UTF-8 are checked as all are, and have no answer behind that.
+#[test]
+fn other_bytes_are_not_answered() {
+    let code = |left, right| answer(2, 1, &bytes(left), &bytes(right), LONGEST).code;
+    assert_eq!(code("T{a}", "T{\\c3\\a9}"), 0);
+    assert_eq!(code("T{\\e2\\82}", "empty"), 3);
+    assert_eq!(code("T{\\e2\\82} @25=1", "T{a}"), 4);
+    for operands in [["T{\\e2\\82}", "T{a}"], ["T{a}", "T{\\ac}"]] {
+        let ended = std::panic::catch_unwind(|| code(operands[0], operands[1]));
+        let payload = ended.expect_err("no answer");
+        let text = payload.downcast_ref::<String>().expect("a text");
+        assert!(text.starts_with("oracle failure: a text is no UTF-8; the call: 2 1 "));
+    }
+}
+
+/// 22 of texts is the original's; 26 and 28 are added, in this order.
+#[test]
+fn texts_that_are_refused() {
+    let mark = |component, left, right| {
+        let answer = answer(component, 1, &bytes(left), &bytes(right), LONGEST);
+        (answer.code, answer.mark)
+    };
+    for component in [1, 3, 4, 5, 9] {
+        assert_eq!(mark(component, "T{a}", "T{a}"), (22, Mark::Rust));
+    }
+    assert_eq!(mark(2, "T{a*600}", "T{a*424}"), (0, Mark::Rust));
+    assert_eq!(mark(2, "T{a*600}", "T{a*425}"), (28, Mark::Added));
+    assert_eq!(mark(2, "T{12#50}", "T{11#50}"), (26, Mark::Added));
+}
+
 /// 24 by a checked operation is the original's; by a panic it is added.
 #[test]
 fn overflows_are_told_apart() {
     let mark = |component, left, right| {
-        let answer = answer(component, 1, &bytes(left), &bytes(right), 1284);
+        let answer = answer(component, 1, &bytes(left), &bytes(right), LONGEST);
         (answer.code, answer.mark)
     };
     let most = "W[9223372036854775807,9223372036854775807]";

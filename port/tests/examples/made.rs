@@ -2,7 +2,7 @@
 
 use crate::answering::propagate_property;
 
-pub const SLOT: usize = 1284;
+pub const SLOT: usize = 2308;
 
 pub type Entry = (Option<i64>, Option<i64>);
 
@@ -64,6 +64,47 @@ pub fn lists(nature: u8, columns: u8, lists: &[&[i64]]) -> Vec<u8> {
     bytes
 }
 
+/// One list of texts, of type Str.
+pub fn t(list: &[&[u8]]) -> Vec<u8> {
+    texts(1, &[list])
+}
+
+/// Lists of texts, of type Str.
+pub fn texts(columns: u8, lists: &[&[&[u8]]]) -> Vec<u8> {
+    let area = lists.concat().concat();
+    let mut start = 0;
+    let mut values: Vec<Vec<(u32, u32)>> = vec![];
+    for list in lists {
+        values.push(vec![]);
+        for text in *list {
+            let length = text.len() as u32;
+            values.last_mut().unwrap().push((start, length));
+            start += length;
+        }
+    }
+    let values: Vec<&[(u32, u32)]> = values.iter().map(Vec::as_slice).collect();
+    text_values(columns, &values, &area)
+}
+
+/// Text lists by starts and lengths of their own, and an area.
+pub fn text_values(columns: u8, values: &[&[(u32, u32)]], area: &[u8]) -> Vec<u8> {
+    let bits = |value: &(u32, u32)| (u64::from(value.0) | u64::from(value.1) << 32) as i64;
+    let bits: Vec<Vec<i64>> = values
+        .iter()
+        .map(|list| list.iter().map(bits).collect())
+        .collect();
+    let bits: Vec<&[i64]> = bits.iter().map(Vec::as_slice).collect();
+    let sheet = with(lists(6, columns, &bits), &[(TYPE, 2)]);
+    with_area(sheet, area)
+}
+
+/// The same sheet with this area behind its arrays, whatever its nature.
+pub fn with_area(mut sheet: Vec<u8>, area: &[u8]) -> Vec<u8> {
+    sheet[AREA..AREA + 2].copy_from_slice(&(area.len() as u16).to_le_bytes());
+    sheet.extend(area);
+    sheet
+}
+
 /// Nothing stated of the values.
 pub fn absent() -> Vec<u8> {
     head(0, 0, 0, 1)
@@ -77,6 +118,7 @@ pub const NOT_EMPTY: usize = 10;
 pub const ORDERED: usize = 11;
 pub const STABILITY: usize = 12;
 pub const AGGREGATOR: usize = 16;
+pub const AREA: usize = 26;
 
 /// The same sheet with other bytes.
 pub fn with(mut sheet: Vec<u8>, bytes: &[(usize, u8)]) -> Vec<u8> {

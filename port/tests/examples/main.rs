@@ -3,6 +3,7 @@
 mod made;
 mod pool;
 mod shelf;
+mod text;
 
 /// Who answers.
 mod answering {

@@ -5,6 +5,7 @@
 use super::{State, Walked};
 use crate::component::Component;
 use crate::nature::{Bound, Nature};
+use crate::quotes::has_numbers;
 use crate::sheet::Sheet;
 use std::collections::BTreeSet;
 
@@ -14,7 +15,17 @@ pub(super) fn of(walked: &Walked) -> Vec<String> {
     if (0..walked.nodes()).any(|node| any_entry(walked.sheet(node), |(l, u)| l == Bound::Absent || u == Bound::Absent)) {
         notes.push("-inf and +inf stand for an end that sets no bound.".to_string());
     }
+    if (0..walked.nodes()).any(|node| has_escape(walked.sheet(node))) {
+        notes.push(r"in a text \xHH stands for one byte, and \u{..} for a character that is not shown.".to_string());
+    }
     notes
+}
+
+fn has_escape(sheet: Option<&Sheet>) -> bool {
+    match sheet {
+        Some(Sheet { nature: Nature::TextCategories(lists), .. }) => lists.iter().flatten().any(|text| has_numbers(text)),
+        _ => false,
+    }
 }
 
 fn any_entry(sheet: Option<&Sheet>, test: impl Fn((Bound, Bound)) -> bool) -> bool {

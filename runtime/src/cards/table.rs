@@ -102,7 +102,8 @@ fn wrapped(label: &str, nature: &Nature, list: &[String]) -> Vec<String> {
     for (place, member) in list.iter().enumerate() {
         let last = place + 1 == list.len();
         let word = format!("{member}{}", if last { "}" } else { "," });
-        if width(&line) + 1 + width(&word) > WRAP {
+        // A member is never broken, so that a long text may pass the width.
+        if place > 0 && width(&line) + 1 + width(&word) > WRAP {
             lines.push(std::mem::replace(&mut line, indent.clone()));
         } else if place > 0 {
             line.push(' ');

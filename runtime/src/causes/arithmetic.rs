@@ -1,11 +1,9 @@
-//! Causes of 24 and 26: the numbers that a component computes, and the categories of its result.
+//! Causes of 24: the numbers that a component computes.
 
 use super::Pair;
 use crate::component::Component;
-use crate::form::NARROW;
 use crate::nature::{Bound, Nature};
 use crate::show;
-use std::collections::HashSet;
 
 /// An operation as people write it, and its exact result; none for a division by zero.
 struct Operation {
@@ -84,18 +82,9 @@ impl Pair<'_> {
         Some(format!("{}: {fault}", self.both("rows", |s| show::optional(s.rows))))
     }
 
-    /// Lists that meet: the number of columns, and the two lists of a column.
-    fn columns_of_lists(&self) -> Vec<(&[i64], &[i64])> {
-        let columns = self.columns();
-        let spread = |lists: usize| if lists == 1 { columns } else { lists };
-        let (left, right) = (lists_of(&self.left.sheet.nature), lists_of(&self.right.sheet.nature));
-        let count = spread(left.len()).min(spread(right.len()));
-        let pick = |lists: &'_ [Vec<i64>], column: usize| if lists.len() == 1 { 0 } else { column };
-        (0..count).map(|j| (&left[pick(left, j)][..], &right[pick(right, j)][..])).collect()
-    }
-
     fn category_overflow(&self) -> Option<String> {
-        for (column, (left, right)) in self.columns_of_lists().into_iter().enumerate() {
+        let (left, right) = (wholes(&self.left.sheet.nature), wholes(&self.right.sheet.nature));
+        for (column, (left, right)) in self.lists_that_meet(left, right).into_iter().enumerate() {
             let fault = first_fault(self.component, left, right);
             if let Some(fault) = fault {
                 return Some(format!("list {}: {fault}", column + 1));
@@ -103,21 +92,10 @@ impl Pair<'_> {
         }
         None
     }
-
-    /// 26: how many would be written, list by list.
-    pub(super) fn too_many(&self) -> Vec<String> {
-        let lists = self.columns_of_lists();
-        let counts: Vec<usize> = lists.iter().map(|(left, right)| count_results(self.component, left, right)).collect();
-        let total: usize = counts.iter().sum();
-        let limit = NARROW.categories;
-        let words: Vec<String> = counts.iter().map(usize::to_string).collect();
-        let of_lists = if counts.len() > 1 { format!(" ({} by list)", words.join(" + ")) } else { String::new() };
-        let sizes = self.both("categories", |s| s.nature.categories().to_string());
-        vec![format!("{sizes}: the result holds {total}{of_lists}, at most {limit}")]
-    }
 }
 
-fn lists_of(nature: &Nature) -> &[Vec<i64>] {
+/// The lists of whole categories.
+pub(super) fn wholes(nature: &Nature) -> &[Vec<i64>] {
     match nature {
         Nature::WholeCategories(lists) => lists,
         _ => &[],
@@ -141,34 +119,6 @@ fn first_fault(component: Component, left: &[i64], right: &[i64]) -> Option<Stri
         }
     }
     None
-}
-
-/// Abs and negative drop an operand's repeats and keep those that arise; the others keep first occurrences, pool those of both lists.
-fn count_results(component: Component, left: &[i64], right: &[i64]) -> usize {
-    let own: HashSet<i64> = left.iter().copied().collect();
-    if component.is_unary() {
-        return own.len();
-    }
-    let others: HashSet<i64> = right.iter().copied().collect();
-    if component == Component::Pool {
-        return own.union(&others).count();
-    }
-    let mut results = HashSet::new();
-    for &a in &own {
-        for &b in &others {
-            results.insert(operation_result(component, a.into(), b.into()));
-        }
-    }
-    results.len()
-}
-
-fn operation_result(component: Component, a: i128, b: i128) -> Option<i128> {
-    match component {
-        Component::Add => Some(a + b),
-        Component::Subtract => Some(a - b),
-        Component::Multiply => Some(a * b),
-        _ => a.checked_div(b),
-    }
 }
 
 /// The operations that a column's end rule takes, in order.

@@ -4,6 +4,7 @@
 
 mod arithmetic;
 mod bounds;
+mod counts;
 
 use crate::calls::{propagate_property, Stopped, Walk};
 use crate::component::Component;
@@ -34,12 +35,13 @@ pub struct Call<'a> {
 /// Why a single call was refused.
 ///
 /// ```
+/// use gate_runtime::form::plan::SLOT;
 /// use gate_runtime::{causes, propagate_property, DataType, Ends, Nature, Sheet};
 /// let sheet = |nature| Sheet::new(DataType::Int, nature).with_rows(1).released().encode();
 /// let left = sheet(Nature::whole_range(&[[1, 10]]));
 /// let right = sheet(Nature::WholeRange(vec![Ends { lower: None, upper: Some(5) }]));
-/// let refusal = propagate_property(5, 0, &left, &right, &mut [0; 1284]).unwrap_err();
-/// let call = causes::Call { component: 5, left: &left, right: &right, out_len: 1284, names: ["", ""] };
+/// let refusal = propagate_property(5, 0, &left, &right, &mut [0; SLOT]).unwrap_err();
+/// let call = causes::Call { component: 5, left: &left, right: &right, out_len: SLOT, names: ["", ""] };
 /// assert_eq!(
 ///     causes::of_single(refusal, &call)[0],
 ///     "column 1: left [+1, +10], right [-inf, +5]: right has no lower end, and its upper end is 0 or above"
@@ -230,6 +232,7 @@ impl Pair<'_> {
             Refusal::DivideMayMeetZero => self.meets_zero(),
             Refusal::WholeOverflow => self.overflow(),
             Refusal::TooManyCategories => self.too_many(),
+            Refusal::TooMuchText => self.too_much_text(),
             // 1 to 5 and 27 are explained before; 25 is never given.
             _ => Vec::new(),
         }

@@ -31,7 +31,8 @@ pub(super) const CARDS: &str = "usage: gate cards [--json] [--svg FILE] PLAN...
 Reads each plan's text, hands it to the proved calls and prints its card: node,
 name, component and operands, type, the range or the categories of each column,
 columns, rows, dataset and marks. `-` reads standard input. Both signs are
-written; -inf and +inf stand for an end that sets no bound.
+written; -inf and +inf stand for an end that sets no bound. Texts stand in
+quotes, with the escapes of `gate help format`.
 
 A refused plan also says which node was refused, with which number, and what of
 its operands caused it. A malformed file is named with line and column.
@@ -45,7 +46,7 @@ Exit codes: 0 all accepted, 1 one refused, 2 wrong use or a malformed file.
 
 pub(super) const EXPLAIN: &str = "usage: gate explain [NUMBER]
 
-Says what a refusal's number (1 to 27) means and what can be done about it.
+Says what a refusal's number (1 to 28) means and what can be done about it.
 Without a number it lists all of them.
 ";
 
@@ -62,8 +63,11 @@ leaf NAME : TYPE, ITEM, ...       TYPE is int, float, bool, str or unknown
   whole [LOW, HIGH]               a range of whole numbers, for all columns
   whole [LOW, HIGH] [LOW, HIGH]   one range for each column
   float [LOW, HIGH]               a range of floats; likewise by column
-  whole {1, 2, 3}                 categories; likewise float {..}, bool {..}
                                   (.. or -inf, +inf: the end sets no bound)
+  whole {1, 2, 3}                 categories; likewise float {..}, bool {..}
+  text {\"north\", \"south\"}         categories of text, 1,024 bytes in all lists;
+                                  escapes are \\\" \\\\ \\n \\t, \\xHH for one byte,
+                                  \\u{H..} for a character by its number
   range [..], categories {..}     the same, of the kind that TYPE says
   columns N                       default: one for each range or list, else 1
   rows N, dataset N, dimensions N, sample X        default: absent

@@ -5,6 +5,7 @@ mod layout;
 use crate::cards::table::nature_lines;
 use crate::cards::{State, Walked};
 use crate::component::Component;
+use crate::quotes::is_hidden;
 use crate::show::{folded, width};
 use layout::{Layout, Size};
 
@@ -203,7 +204,7 @@ fn label(class: &str, x: f64, y: f64, text: &str) -> String {
     format!("<text class=\"{class}\" x=\"{x:.1}\" y=\"{y:.1}\" xml:space=\"preserve\">{}</text>\n", escape(text))
 }
 
-/// Text for XML: its special characters, and none that XML cannot hold.
+/// Text for XML: its special characters, and none that XML cannot hold or that a reader cannot see.
 fn escape(text: &str) -> String {
     let mut escaped = String::new();
     for c in text.chars() {
@@ -213,7 +214,7 @@ fn escape(text: &str) -> String {
             '>' => escaped.push_str("&gt;"),
             '"' => escaped.push_str("&quot;"),
             '\'' => escaped.push_str("&apos;"),
-            c if c.is_control() || matches!(c, '\u{fffe}' | '\u{ffff}') => escaped.push('\u{fffd}'),
+            c if is_hidden(c) => escaped.push('\u{fffd}'),
             c => escaped.push(c),
         }
     }

@@ -3,16 +3,17 @@
 use super::line::Line;
 use super::problem::{nearest, Problem};
 use super::tokens::Token;
-use super::values::{entries, float, group, list, lists, number, or_absent, truth, whole, FLOAT_END, WHOLE_END};
+use super::values::{entries, float, group, list, lists, number, or_absent, texts, truth, whole, FLOAT_END, WHOLE_END};
 use crate::nature::Nature;
 use crate::sheet::{DataType, Group, Sheet};
 use std::num::NonZeroU32;
 
 /// Every word that begins an item.
-const ITEMS: [&str; 19] = [
+const ITEMS: [&str; 20] = [
     "whole",
     "float",
     "bool",
+    "text",
     "range",
     "categories",
     "columns",
@@ -53,6 +54,7 @@ impl Draft {
 /// `: TYPE, ITEM, ..` to the end of the statement.
 pub(super) fn leaf(line: &mut Line) -> Result<Draft, Problem> {
     line.sign(":", "`:` after the leaf's name").map_err(|problem| problem.with_help("a name is letters, digits and `_`"))?;
+    line.check_quotes()?;
     let data_type = data_type(line)?;
     let sheet = Sheet::new(data_type, Nature::Absent);
     let mut draft = Draft { sheet, columns: None, node: None, given: Vec::new() };
@@ -89,7 +91,7 @@ fn item(line: &mut Line, draft: &mut Draft) -> Result<(), Problem> {
     let word = line.word("an item such as `whole [-5, 3]`, `rows 8` or `releasable`")?;
     let count = |line: &mut Line| whole(line, "a whole number or `absent`");
     let sets = match word.text {
-        "whole" | "float" | "bool" | "range" | "categories" => "a range or categories",
+        "whole" | "float" | "bool" | "text" | "range" | "categories" => "a range or categories",
         "releasable" | "private" => "whether it is releasable",
         other => ITEMS.into_iter().find(|item| *item == other).unwrap_or("an unknown item"),
     };
@@ -98,7 +100,7 @@ fn item(line: &mut Line, draft: &mut Draft) -> Result<(), Problem> {
     }
     let sheet = &mut draft.sheet;
     match word.text {
-        "whole" | "float" | "bool" | "range" | "categories" => {
+        "whole" | "float" | "bool" | "text" | "range" | "categories" => {
             sheet.nature = nature(line, word, sheet.data_type)?;
         }
         "columns" => draft.columns = Some(or_absent(line, count)?),
@@ -136,6 +138,7 @@ enum Kind {
     Whole,
     Float,
     Bool,
+    Text,
 }
 
 /// `range` and `categories` take their kind from the data type; the other words name it.
@@ -144,16 +147,19 @@ fn kind(line: &Line, word: Token, data_type: DataType) -> Result<Kind, Problem> 
         ("whole", _) | ("range" | "categories", DataType::Int) => Ok(Kind::Whole),
         ("float", _) | ("range" | "categories", DataType::Float) => Ok(Kind::Float),
         ("bool", _) | ("categories", DataType::Bool) => Ok(Kind::Bool),
-        _ => {
+        ("text", _) | ("categories", DataType::Str) => Ok(Kind::Text),
+        (item, _) => {
+            let kinds = if item == "range" { "`whole` or `float`" } else { "`whole`, `float`, `bool` or `text`" };
             let help = format!("a leaf of type {} does not say the kind", data_type.word());
-            Err(line.found("the kind: `whole`, `float` or `bool`", Some(word)).with_help(help))
+            Err(line.found(&format!("the kind: {kinds}"), Some(word)).with_help(help))
         }
     }
 }
 
 fn nature(line: &mut Line, word: Token, data_type: DataType) -> Result<Nature, Problem> {
     let kind = kind(line, word, data_type)?;
-    let (ranges, categories) = (word.text != "categories" && kind != Kind::Bool, word.text != "range");
+    let has_ranges = matches!(kind, Kind::Whole | Kind::Float);
+    let (ranges, categories) = (word.text != "categories" && has_ranges, word.text != "range");
     let next = line.peek(0).map_or("", |token| token.text);
     match next {
         "[" if ranges => match kind {
@@ -178,6 +184,7 @@ fn category_lists(line: &mut Line, kind: Kind) -> Result<Nature, Problem> {
         Kind::Whole => Nature::WholeCategories(lists(line, |line| whole(line, "a whole number"))?),
         Kind::Float => Nature::FloatCategories(lists(line, |line| float(line, "a float"))?),
         Kind::Bool => Nature::BoolCategories(lists(line, truth)?),
+        Kind::Text => Nature::TextCategories(texts(line)?),
     })
 }
 
@@ -190,6 +197,7 @@ fn empty_nature(line: &mut Line, kind: Kind, ranges: bool, categories: bool) -> 
         (_, true, Kind::Whole) => Ok(Nature::WholeCategories(Vec::new())),
         (_, true, Kind::Float) => Ok(Nature::FloatCategories(Vec::new())),
         (_, true, Kind::Bool) => Ok(Nature::BoolCategories(Vec::new())),
+        (_, true, Kind::Text) => Ok(Nature::TextCategories(Vec::new())),
         _ => Err(line.found("`ranges` or `lists` after `no`", line.peek(0))),
     }
 }

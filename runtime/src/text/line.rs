@@ -68,6 +68,18 @@ impl<'a> Line<'a> {
         }
     }
 
+    /// Every text of the statement has both its quotes; what follows a missing one would be read as text.
+    pub fn check_quotes(&self) -> Result<(), Problem> {
+        let unended = |token: &&Token| token.kind == TokenKind::Text && token.inside().is_none();
+        match self.tokens.iter().find(unended) {
+            None => Ok(()),
+            Some(token) => {
+                let problem = Problem::new("a text with a quote at both ends", "the end of the line", Some(*token));
+                Err(problem.with_help("a text ends in its line; a quote inside of it is written \\\", a line break \\n"))
+            }
+        }
+    }
+
     /// Takes a word.
     pub fn word(&mut self, expected: &str) -> Result<Token<'a>, Problem> {
         match self.peek(0) {

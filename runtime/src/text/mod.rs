@@ -1,6 +1,6 @@
 //! Plans as text.
 //!
-//! One line is one node: `leaf NAME : TYPE, ITEM, ..` or `NAME = COMPONENT OPERAND [OPERAND]`. A `#` begins a comment, and a line that ends in a comma goes on in the next. The package's README describes every item.
+//! One line is one node: `leaf NAME : TYPE, ITEM, ..` or `NAME = COMPONENT OPERAND [OPERAND]`. A `#` begins a comment, and a line that ends in a comma goes on in the next. Texts stand in quotes ([`crate::quotes`]). The package's README describes every item.
 
 mod items;
 mod line;

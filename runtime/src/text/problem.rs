@@ -1,6 +1,7 @@
 //! What is wrong with a text, and where.
 
 use super::tokens::Token;
+use crate::quotes::is_hidden;
 use crate::show::{folded, width};
 use std::fmt;
 
@@ -111,7 +112,7 @@ impl fmt::Display for Problem {
 fn printable(c: char) -> char {
     match c {
         '\t' => ' ',
-        c if c.is_control() => '\u{fffd}',
+        c if is_hidden(c) => '\u{fffd}',
         c => c,
     }
 }

@@ -1,4 +1,4 @@
-//! Words, numbers and signs of a line.
+//! Words, numbers, texts in quotes and signs of a line.
 
 /// What a token is.
 #[derive(Clone, Copy, Debug, PartialEq, Eq)]
@@ -7,6 +7,8 @@ pub(super) enum TokenKind {
     Word,
     /// Something that begins like a number.
     Number,
+    /// A text with its quotes; the second may be missing, at the end of the line.
+    Text,
     /// One sign, or `..`.
     Sign,
 }
@@ -20,6 +22,14 @@ pub(super) struct Token<'a> {
     pub line: usize,
     /// Characters before it in its line.
     pub column: usize,
+}
+
+impl<'a> Token<'a> {
+    /// What stands between the quotes of a text; nothing if the second one is missing.
+    pub fn inside(&self) -> Option<&'a str> {
+        let inside = self.text.strip_prefix('"').filter(|_| self.kind == TokenKind::Text)?;
+        (text_length(self.text) == Some(self.text.len())).then(|| &inside[..inside.len() - 1])
+    }
 }
 
 /// The tokens of a line, without its comment.
@@ -47,6 +57,9 @@ fn measure(rest: &str, first: char) -> (TokenKind, usize) {
     if rest.starts_with("..") {
         return (TokenKind::Sign, 2);
     }
+    if first == '"' {
+        return (TokenKind::Text, text_length(rest).unwrap_or(rest.len()));
+    }
     if first.is_alphabetic() || first == '_' {
         return (TokenKind::Word, run(rest, |_, c| c.is_alphanumeric() || c == '_' || is_mark(c)));
     }
@@ -57,6 +70,20 @@ fn measure(rest: &str, first: char) -> (TokenKind, usize) {
         return (TokenKind::Number, run(rest, belongs));
     }
     (TokenKind::Sign, first.len_utf8())
+}
+
+/// Bytes up to the second quote and with it, if there is one. A quote behind a backslash belongs to the text.
+fn text_length(rest: &str) -> Option<usize> {
+    let mut behind_backslash = false;
+    for (at, byte) in rest.bytes().enumerate().skip(1) {
+        match byte {
+            _ if behind_backslash => behind_backslash = false,
+            b'\\' => behind_backslash = true,
+            b'"' => return Some(at + 1),
+            _ => {}
+        }
+    }
+    None
 }
 
 /// Bytes up to the first later character that does not belong.

@@ -2,8 +2,10 @@
 
 use super::line::Line;
 use super::problem::Problem;
-use super::tokens::Token;
+use super::tokens::{Token, TokenKind};
+use crate::form::NARROW;
 use crate::nature::Ends;
+use crate::quotes::unescaped;
 use crate::sheet::{Group, Key};
 
 /// Takes a token and reads it by `parse`.
@@ -23,6 +25,9 @@ fn taken<T>(line: &mut Line, expected: &str, parse: impl Fn(&str) -> Option<T>) 
 
 /// What often goes wrong with numbers.
 fn hint(token: Token) -> Option<&'static str> {
+    if token.kind == TokenKind::Text {
+        return Some("there are no quotes here; texts in quotes belong to `text {..}`");
+    }
     if token.text.contains('\u{2212}') {
         return Some("write the sign as `-`");
     }
@@ -46,6 +51,40 @@ pub(super) fn float(line: &mut Line, expected: &str) -> Result<f64, Problem> {
 
 pub(super) fn truth(line: &mut Line) -> Result<bool, Problem> {
     taken(line, "`true` or `false`", |text| text.parse().ok())
+}
+
+/// Text lists, within the limits that a sheet has for them: the place of the text that is too much is known here alone.
+pub(super) fn texts(line: &mut Line) -> Result<Vec<Vec<Vec<u8>>>, Problem> {
+    let (mut count, mut size) = (0, 0);
+    lists(line, |line| {
+        let token = line.peek(0);
+        let text = text(line)?;
+        count += 1;
+        size += text.len();
+        if count > NARROW.categories {
+            let expected = format!("at most {} texts in a leaf", NARROW.categories);
+            return Err(Problem::new(expected, "one more", token).with_help("all lists of the leaf count together"));
+        }
+        if size > NARROW.text {
+            let expected = format!("at most {} bytes of text in a leaf", NARROW.text);
+            let found = format!("{size} with this text");
+            return Err(Problem::new(expected, &found, token).with_help("all texts of the leaf count together, repeats too"));
+        }
+        Ok(text)
+    })
+}
+
+/// A text in quotes.
+fn text(line: &mut Line) -> Result<Vec<u8>, Problem> {
+    let token = line.peek(0);
+    let Some((token, inside)) = token.and_then(|token| Some((token, token.inside()?))) else {
+        return Err(line.found("a text in quotes", token).with_help("for instance \"north\""));
+    };
+    line.next();
+    unescaped(inside).map_err(|bad| {
+        let at = Token { text: &bad.found, column: token.column + 1 + bad.at, ..token };
+        line.found(bad.expected, Some(at)).with_help(r#"escapes are \" \\ \n \t, \xHH for one byte and \u{..} for a character"#)
+    })
 }
 
 /// A value, or the word `absent`.
@@ -88,16 +127,16 @@ pub(super) fn entries<T>(line: &mut Line, kind: &EndKind<T>) -> Result<Vec<Ends<
 }
 
 /// `{A, B, ..}`, once or more.
-pub(super) fn lists<T>(line: &mut Line, value: impl Fn(&mut Line) -> Result<T, Problem>) -> Result<Vec<Vec<T>>, Problem> {
+pub(super) fn lists<T>(line: &mut Line, mut value: impl FnMut(&mut Line) -> Result<T, Problem>) -> Result<Vec<Vec<T>>, Problem> {
     let mut lists = Vec::new();
     while line.peek(0).is_some_and(|token| token.text == "{") {
-        lists.push(list(line, &value)?);
+        lists.push(list(line, &mut value)?);
     }
     Ok(lists)
 }
 
 /// `{A, B, ..}`, once.
-pub(super) fn list<T>(line: &mut Line, value: impl Fn(&mut Line) -> Result<T, Problem>) -> Result<Vec<T>, Problem> {
+pub(super) fn list<T>(line: &mut Line, mut value: impl FnMut(&mut Line) -> Result<T, Problem>) -> Result<Vec<T>, Problem> {
     line.sign("{", "`{`")?;
     let mut members = Vec::new();
     if line.take("}") {

@@ -17,10 +17,19 @@ fn refused(component: u32, left: &[u8], right: &[u8], out_len: usize) -> Option<
     let texts = causes::of_single(refusal, &call);
     let text = texts.join("; ");
     assert!(!texts.is_empty() && !text.contains(NO_CAUSE), "{refusal}: no cause for component {component}, {left:?}, {right:?}");
-    if refusal.code() == 24 {
-        assert!(text.contains("leaves 64 signed bits") || text.contains("divides by zero"), "{text}");
+    match refusal.code() {
+        24 => assert!(text.contains("leaves 64 signed bits") || text.contains("divides by zero"), "{text}"),
+        26 => exceeds(&text, 128),
+        28 => exceeds(&text, 1024),
+        _ => {}
     }
     Some(refusal.code())
+}
+
+/// A count that the cause names is over its limit.
+fn exceeds(cause: &str, limit: usize) {
+    let (count, rest) = cause.split_once("the result holds ").expect("the count").1.split_once([' ', ',']).expect("the limit");
+    assert!(count.parse::<usize>().is_ok_and(|count| count > limit) && rest.contains(&format!("at most {limit}")), "{cause}");
 }
 
 /// No arithmetic cause is found in operands that the proved call accepts.
@@ -43,7 +52,7 @@ fn generated_calls_have_causes() {
     let mut draws = Draws::new(20_261_115);
     let (mut seen, mut of_pool) = (BTreeSet::new(), BTreeSet::new());
     let mut accepted = 0;
-    for _ in 0..60_000 {
+    for _ in 0..120_000 {
         let (left, right) = (sheet(&mut draws).encode(), sheet(&mut draws).encode());
         let out_len = if draws.one_in(20) { 100 } else { SLOT };
         let component = component(&mut draws).number();
@@ -60,9 +69,9 @@ fn generated_calls_have_causes() {
             }
         }
     }
-    let wanted: BTreeSet<u32> = (5..=27).filter(|number| *number != 25).collect();
+    let wanted: BTreeSet<u32> = (5..=28).filter(|number| *number != 25).collect();
     assert_eq!(seen, wanted);
-    assert_eq!(of_pool, BTreeSet::from([5, 6, 7, 8, 11, 12, 14, 17, 18, 19, 20, 21, 24, 26, 27]));
+    assert_eq!(of_pool, BTreeSet::from([5, 6, 7, 8, 11, 12, 14, 17, 18, 19, 20, 21, 24, 26, 27, 28]));
     assert!(accepted > 5_000, "{accepted} calls were accepted");
 }
 

@@ -24,6 +24,22 @@ pub fn listed(lists: &[&[i64]]) -> Sheet {
     plain(DataType::Int, Nature::WholeCategories(lists))
 }
 
+pub fn texts<T: AsRef<[u8]>>(lists: &[&[T]]) -> Sheet {
+    plain(DataType::Str, Nature::text_categories(lists))
+}
+
+pub fn floats_listed() -> Sheet {
+    plain(DataType::Float, Nature::FloatCategories(vec![vec![0.5]]))
+}
+
+/// All texts of a nature, in value order.
+pub fn joined(nature: &Nature) -> Vec<u8> {
+    match nature {
+        Nature::TextCategories(lists) => lists.iter().flatten().flatten().copied().collect(),
+        _ => Vec::new(),
+    }
+}
+
 /// The same sheet, changed.
 pub fn but(mut sheet: Sheet, change: impl Fn(&mut Sheet)) -> Sheet {
     change(&mut sheet);
@@ -86,9 +102,27 @@ fn some_lists<T>(draws: &mut Draws, lists: usize, mut member: impl FnMut(&mut Dr
     (0..lists).map(|_| (0..draws.below(most + 1)).map(|_| member(draws)).collect()).collect()
 }
 
+/// A text: empty, of few letters so that joins collapse, of any bytes, or long now and then.
+fn text(draws: &mut Draws) -> Vec<u8> {
+    let length = if draws.one_in(12) { 200 + draws.below(500) } else { draws.below(5) };
+    let any = draws.one_in(4);
+    (0..length).map(|_| if any { draws.next() as u8 } else { draws.pick(b"ab") }).collect()
+}
+
+/// Text lists within a sheet's 1,024 bytes: what would exceed them is empty.
+fn text_lists(draws: &mut Draws, lists: usize) -> Vec<Vec<Vec<u8>>> {
+    let mut room = 1024;
+    some_lists(draws, lists, |draws| {
+        let text = text(draws);
+        let text = if text.len() <= room { text } else { Vec::new() };
+        room -= text.len();
+        text
+    })
+}
+
 fn nature(draws: &mut Draws, lists: usize) -> Nature {
     let times = |draws: &mut Draws, value: fn(&mut Draws) -> Ends<f64>| (0..lists).map(|_| value(draws)).collect();
-    match draws.below(11) {
+    match draws.below(13) {
         0 => Nature::Absent,
         1..=4 => Nature::WholeRange((0..lists).map(|_| whole_entry(draws)).collect()),
         5..=6 => Nature::FloatRange(times(draws, float_entry)),
@@ -96,7 +130,8 @@ fn nature(draws: &mut Draws, lists: usize) -> Nature {
             0 => d.pick(&WHOLES),
             _ => d.below(1000) as i64 - 500,
         })),
-        9 => Nature::BoolCategories(some_lists(draws, lists, |d| d.one_in(2))),
+        9..=10 => Nature::TextCategories(text_lists(draws, lists)),
+        11 => Nature::BoolCategories(some_lists(draws, lists, |d| d.one_in(2))),
         _ => Nature::FloatCategories(some_lists(draws, lists, |d| match d.below(9) {
             0 => f64::NAN,
             1 => f64::INFINITY,

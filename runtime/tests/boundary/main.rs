@@ -5,4 +5,5 @@ mod causes;
 mod made;
 mod refusals;
 mod round_trips;
+mod texts;
 mod threads;

@@ -1,6 +1,6 @@
 //! Every refusal number from Rust, by the proved calls, with a cause that names the right field, column or pair.
 
-use crate::made::{but, float, listed, plain, private, whole, whole_ends};
+use crate::made::{but, float, floats_listed, listed, plain, private, texts, whole, whole_ends};
 use gate_runtime::causes::{self, Call, NO_CAUSE};
 use gate_runtime::form::plan::SLOT;
 use gate_runtime::{propagate_properties, propagate_property, DataType, Ends, Group, Key, Nature, Plan, Refusal, Sheet, Stopped};
@@ -72,6 +72,7 @@ fn sizes_and_fields() -> Vec<Case> {
         of(3, right(listed(&[&[7; 129]]).encode()), "left, categories: 129, at most 128"),
         of(3, (plain_bytes.clone(), longer), "right, length: 99 bytes, the sizes call for 98"),
         of(4, wrong(25, 1), "reserved bytes: byte 25 is 1"),
+        of(4, wrong(28, 1), "reserved bytes: byte 28 is 1"),
         of(4, wrong(31, 1), "byte 31 is 1"),
         of(4, wrong(8, 2), "nullity: 2"),
         of(4, wrong(7, 5), "data type: 5"),
@@ -86,7 +87,7 @@ fn sizes_and_fields() -> Vec<Case> {
         of(4, right(with_byte(bool_list, 81, 2)), "bool value 2"),
         of(4, right(with_byte(grouped.clone(), 84, 4)), "group 1: kind 4"),
         of(4, right(with_byte(grouped, 85, 2)), "group 1: bool index 2"),
-        of(4, right(with_byte(plain(DataType::Int, Nature::Absent).encode(), 6, 9)), "nature: 9"),
+        of(4, right(with_byte(plain(DataType::Int, Nature::Absent).encode(), 6, 9)), "nature: 9, permitted 0 to 6"),
         of(4, right(with_byte(plain(DataType::Int, Nature::Absent).encode(), 2, 3)), "nature absent: 3 lists"),
     ]
 }
@@ -189,6 +190,48 @@ fn arithmetic() -> Vec<Case> {
     ]
 }
 
+/// What text brings: its area in 3 and 4, the kinds and rules, and 26 and 28.
+fn labelled() -> Vec<Case> {
+    let plain_bytes = one().encode();
+    let text = || but(texts(&[&["a"]]), |s| s.data_type = DataType::Int);
+    let fan = || texts(&[&["pump", "fan"]]).encode();
+    let pair = |number, left, cause| bytes(number, ADD, left, plain_bytes.clone(), cause);
+    let no_text = |at| with_byte([plain_bytes.clone(), vec![0]].concat(), at, 1);
+    let of = |length: usize| texts(&[&["x".repeat(length)]]);
+    let many = |first: &str, count: usize| {
+        let list: Vec<String> = (0..count).map(|k| format!("{first}{k:049}")).collect();
+        texts(&[&list])
+    };
+    vec![
+        pair(3, with_byte(plain_bytes.clone(), 26, 1), "left, length: 98 bytes, the sizes call for 99"),
+        pair(3, of(1025).encode(), "left, bytes of text: 1025, at most 1024"),
+        pair(4, no_text(26), "bytes of text: 1, permitted 0 unless the categories are text"),
+        pair(4, with_byte(fan(), 82, 1), "category 1: its text starts at 1, permitted 0"),
+        pair(4, with_byte(fan(), 90, 3), "category 2: its text starts at 3, permitted 4"),
+        pair(4, with_byte(fan(), 94, 4), "category 2: its text ends at 8, permitted to 7"),
+        pair(4, with_byte(fan(), 94, 2), "bytes of text: 7, the texts end at 6"),
+        pair(4, with_byte(fan(), 81, 1), "category 2: list number 1, permitted below 1"),
+        case(15, MODULO, text(), text(), "right: text categories {\"a\"}: a whole range is wanted"),
+        case(19, ADD, text(), but(floats_listed(), |s| s.data_type = DataType::Int), "right: float categories {+0.5}"),
+        case(20, ADD, texts::<&str>(&[]), texts(&[&["a"]]), "left: text categories without lists"),
+        case(21, ADD, text(), listed(&[&[1]]), "natures: left text categories, right whole categories"),
+        case(22, SUBTRACT, text(), text(), "left: text categories {\"a\"}: subtract has no rule for text categories"),
+        case(22, ABS, text(), text(), "operand: text categories {\"a\"}: abs has no rule for text categories"),
+        case(26, ADD, many("a", 12), many("b", 11), "categories: left 12, right 11: the result holds 132, at most 128"),
+        case(28, ADD, many("a", 11), many("b", 11), "bytes of text: left 550, right 550: the result holds 12100, at most 1024"),
+        case(28, ADD, of(600), of(425), "bytes of text: left 600, right 425: the result holds 1025, at most 1024"),
+        case(
+            28,
+            ADD,
+            of(257).with_columns(4),
+            of(0).with_columns(4),
+            "the result holds 1028 (257 + 257 + 257 + 257 by list), at most 1024, exceeded from column 4 on",
+        ),
+        case(28, POOL, of(1000), of(25), "bytes of text: left 1000, right 25: the result holds 1025, at most 1024"),
+        case(24, POOL, of(1000).with_rows(i64::MAX), of(25), "9223372036854775807 + 1 = 9223372036854775808 leaves"),
+    ]
+}
+
 /// Every refusal that pool can give behind the sheets' own, in the order of its checks.
 fn pooled() -> Vec<Case> {
     let floats = || plain(DataType::Int, Nature::FloatCategories(vec![vec![0.5]]));
@@ -226,7 +269,7 @@ fn pooled() -> Vec<Case> {
 }
 
 pub fn cases() -> Vec<Case> {
-    let groups = [sizes_and_fields(), bounds_and_marks(), shapes_and_types(), bounds_read(), natures(), arithmetic(), pooled()];
+    let groups = [sizes_and_fields(), bounds_and_marks(), shapes_and_types(), bounds_read(), natures(), arithmetic(), labelled(), pooled()];
     groups.into_iter().flatten().collect()
 }
 
@@ -248,7 +291,7 @@ fn every_single_call_case_has_its_number_and_cause() {
 #[test]
 fn every_number_but_25_is_reached_and_25_says_why_not() {
     let reached: BTreeSet<u32> = cases().iter().map(|case| case.number).chain([1]).collect();
-    let all: BTreeSet<u32> = (1..=27).filter(|number| *number != 25).collect();
+    let all: BTreeSet<u32> = (1..=28).filter(|number| *number != 25).collect();
     assert_eq!(reached, all);
     let text = Refusal::PowerCategoryOverflow.explain();
     assert!(text.contains("No call can meet it") && text.contains("(15)") && text.contains("(22)"));
@@ -303,13 +346,13 @@ fn a_short_work_buffer_is_27_without_a_node() {
     let stopped = Stopped { refusal: Refusal::OutputTooShort, node: None };
     assert_eq!(propagate_properties(&plan, &mut work), Err(stopped));
     let text = causes::of_plan(Refusal::OutputTooShort, &plan, work.len());
-    assert_eq!(text, ["work buffer: 2567 bytes, 2 nodes need 2568"]);
+    assert_eq!(text, ["work buffer: 4615 bytes, 2 nodes need 4616"]);
 }
 
 /// In a plan, 3 to 5 of a leaf name the leaf; every other refusal names the step.
 #[test]
 fn a_plan_names_the_node_and_its_cause() {
-    for case in cases().into_iter().filter(|case| (4..=26).contains(&case.number)) {
+    for case in cases().into_iter().filter(|case| case.number >= 4 && case.number != 27) {
         let Ok(component) = gate_runtime::Component::from_number(case.component).ok_or(()) else {
             continue;
         };

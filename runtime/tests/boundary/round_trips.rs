@@ -1,8 +1,8 @@
 //! Sheets and plans in bytes and back, held against the proved reader.
 
-use crate::made::{component, sheet, Draws};
+use crate::made::{component, joined, sheet, Draws};
 use crate::refusals::cases;
-use gate_runtime::{propagate_properties, propagate_property, Plan, Refusal, Sheet};
+use gate_runtime::{propagate_properties, propagate_property, Nature, Plan, Refusal, Sheet};
 
 /// What the proved plan call says of one leaf: nothing, 3, 4 or 5.
 fn judged(sheet: &[u8]) -> Option<Refusal> {
@@ -35,6 +35,29 @@ fn encoded_sheets_pass_the_proved_reader_and_come_back() {
     }
 }
 
+/// Of a text sheet, the texts in value order are the area, and any bytes come back.
+#[test]
+fn texts_of_any_bytes_come_back() {
+    let mut draws = Draws::new(15);
+    let mut seen = 0;
+    for _ in 0..20_000 {
+        let sheet = sheet(&mut draws);
+        let Nature::TextCategories(lists) = &sheet.nature else {
+            assert_eq!(sheet.encode()[26..28], [0, 0]);
+            continue;
+        };
+        let bytes = sheet.encode();
+        let area = joined(&sheet.nature);
+        assert_eq!(bytes[26..28], (area.len() as u16).to_le_bytes());
+        assert!(bytes.ends_with(&area));
+        let back = Sheet::decode(&bytes).unwrap();
+        assert!(matches!(&back.nature, Nature::TextCategories(found) if found == lists));
+        assert_eq!(judged(&bytes), None, "{sheet:?}");
+        seen += usize::from(std::str::from_utf8(&area).is_err());
+    }
+    assert!(seen > 500, "{seen} sheets with bytes that are no UTF-8");
+}
+
 /// Negative twice gives back every whole range, and its bytes.
 #[test]
 fn negative_twice_gives_the_range_back() {
@@ -59,12 +82,12 @@ fn negative_twice_gives_the_range_back() {
 #[test]
 fn damaged_sheets_are_read_as_the_proved_call_reads_them() {
     let mut draws = Draws::new(9);
-    let mut counts = [0; 28];
+    let mut counts = [0; 29];
     for _ in 0..60_000 {
         let mut bytes = sheet(&mut draws).encode();
         for _ in 0..draws.below(3) {
             let at = if draws.one_in(2) { draws.below(32) } else { draws.below(bytes.len()) };
-            bytes[at] = draws.pick(&[0, 1, 2, 3, 5, 17, 0x7f, 0x80, 0xff]);
+            bytes[at] = draws.pick(&[0, 1, 2, 3, 4, 5, 6, 17, 0x7f, 0x80, 0xff]);
         }
         if draws.one_in(10) {
             let length = bytes.len() + 3 - draws.below(6);

@@ -1,6 +1,6 @@
 //! Any input at all: no panic, an exit code of 0, 1 or 2, JSON that can be read, and a well-formed picture.
 
-use crate::{example_names, json_reader, root, xml_reader};
+use crate::{example_names, json_reader, root, unseen, xml_reader};
 use gate_runtime::cards::{Card, Outcome};
 use gate_runtime::{command, json, svg};
 use std::ffi::OsString;
@@ -10,7 +10,7 @@ use std::fs;
 const RUNS: usize = 12_000;
 
 /// What mutations put in.
-const WORDS: [&str; 45] = [
+const WORDS: [&str; 53] = [
     "leaf",
     "=",
     ":",
@@ -36,6 +36,13 @@ const WORDS: [&str; 45] = [
     "float",
     "bool",
     "whole",
+    "text",
+    "text {\"a\", \"b\"}",
+    "\"",
+    "\"\\xff\"",
+    "\\",
+    "\\u{202e}",
+    "str",
     "categories",
     "range",
     "no lists",
@@ -56,6 +63,7 @@ const WORDS: [&str; 45] = [
     "log",
     "é冰\u{301}",
     "\u{0}\u{2028}",
+    "\u{202e}\u{200b}",
 ];
 
 /// Every item and component at once.
@@ -65,6 +73,7 @@ leaf c : int, whole {1, 2, 3} {4}, columns 2, rows 1, releasable
 leaf d : float, float {0.5, nan}, rows 1, releasable
 leaf e : float, float [1.7e308, 1.7e308], rows 1, releasable
 leaf f : bool, bool {true}, rows 1, releasable
+leaf t : str, text {\"north \", \"\\xe2\\x82\\u{200f}#\", \"\"}, rows 1, releasable
 g = add a b
 h = abs g
 i = multiply h b
@@ -76,6 +85,8 @@ n = add e e
 o = divide a b
 p = pool a a
 q = pool f f
+r = add t t
+s = pool r t
 ";
 
 /// Numbers from a seed (xorshift), so that every run makes the same ones.
@@ -122,12 +133,14 @@ fn check(bytes: &[u8]) -> u8 {
     assert!(code <= 2);
     let (out, err) = card.render();
     assert_eq!((out.is_empty(), err.is_empty()), (code == 2, code != 2));
-    let shown = out.chars().chain(err.chars()).find(|c| c.is_control() && *c != '\n');
-    assert_eq!(shown, None, "a control character is shown");
-    let document = json_reader::read(&json::document(std::slice::from_ref(&card)).write()).expect("JSON that can be read");
+    let document = json::document(std::slice::from_ref(&card)).write();
+    assert_eq!([&out, &err, &document].map(|text| unseen(text)), [None; 3], "a character that cannot be seen");
+    let document = json_reader::read(&document).expect("JSON that can be read");
     assert_eq!(document.at("plans").list().len(), 1);
     if let Outcome::Walked(walked) = &card.outcome {
-        xml_reader::read(&svg::picture("fuzz.plan", walked)).expect("a well-formed picture");
+        let picture = svg::picture("fuzz.plan", walked);
+        assert_eq!(unseen(&picture), None, "a character that cannot be seen");
+        xml_reader::read(&picture).expect("a well-formed picture");
         let causes = walked.stop().map_or(Vec::new(), |stop| stop.causes);
         assert!(causes.iter().all(|cause| cause != gate_runtime::causes::NO_CAUSE), "{out}");
     }
@@ -164,6 +177,8 @@ fn drawn_plans_never_panic() {
         "bool {true}",
         "whole no lists",
         "whole [9223372036854775807, 9223372036854775807]",
+        "text {\"a\", \"ab\", \"\\xff\"}",
+        "text {\"\"} {\"\\u{202e}\", \"b\"}",
     ];
     let marks = ["", ", releasable", ", releasable", ", dataset 1", ", sample 0.5", ", aggregator 2", ", columns 3", ", columns absent"];
     let words = ["abs", "add", "subtract", "multiply", "divide", "modulo", "log", "power", "negative", "pool"];
@@ -172,7 +187,8 @@ fn drawn_plans_never_panic() {
         let mut text = String::new();
         for leaf in 0..leaves {
             let kind = ["int", "int", "float"][draws.below(3)];
-            text += &format!("leaf n{leaf} : {kind}, {}, rows 1{}\n", natures[draws.below(8)], marks[draws.below(8)]);
+            let (nature, mark) = (natures[draws.below(natures.len())], marks[draws.below(marks.len())]);
+            text += &format!("leaf n{leaf} : {kind}, {nature}, rows 1{mark}\n");
         }
         for node in leaves..leaves + steps {
             let word = words[draws.below(words.len())];

@@ -166,18 +166,28 @@ fn escaped(chars: &mut std::str::Chars) -> Result<char, String> {
         Some('t') => Ok('\t'),
         Some(c @ ('"' | '\\' | '/')) => Ok(c),
         Some('u') => {
-            let digits: String = chars.by_ref().take(4).collect();
-            let number = u32::from_str_radix(&digits, 16).map_err(|_| format!("no digits: {digits}"))?;
-            char::from_u32(number).ok_or_else(|| format!("no character: {digits}"))
+            let mut units = vec![unit(chars)?];
+            // The first half of a character beyond 16 bits; the second follows.
+            if (0xd800..0xdc00).contains(&units[0]) && chars.as_str().starts_with("\\u") {
+                chars.by_ref().take(2).for_each(drop);
+                units.push(unit(chars)?);
+            }
+            String::from_utf16(&units).ok().and_then(|text| text.chars().next()).ok_or_else(|| format!("no character: {units:x?}"))
         }
         other => Err(format!("no escape: {other:?}")),
     }
 }
 
+fn unit(chars: &mut std::str::Chars) -> Result<u16, String> {
+    let digits: String = chars.by_ref().take(4).collect();
+    u16::from_str_radix(&digits, 16).map_err(|_| format!("no digits: {digits}"))
+}
+
 #[test]
 fn the_reader_is_strict() {
     assert!(read("{\"a\": [1, -2.5e3, \"\\u0041\", null]}").is_ok());
-    for text in ["", "[1,]", "{\"a\":1,}", "01", "1.", "[1 2]", "\"\n\"", "nan", "{\"a\":1,\"a\":2}", "[] []"] {
+    assert_eq!(read("\"\\ud83e\\uddca\"").unwrap().text(), "\u{1f9ca}");
+    for text in ["\"\\ud83e\"", "", "[1,]", "{\"a\":1,}", "01", "1.", "[1 2]", "\"\n\"", "nan", "{\"a\":1,\"a\":2}", "[] []"] {
         assert!(read(text).is_err(), "{text}");
     }
 }

@@ -5,6 +5,7 @@ mod fuzz;
 mod json_reader;
 mod pictures;
 mod plans;
+mod texts;
 mod usage;
 mod xml_reader;
 
@@ -48,6 +49,22 @@ pub fn gate_with(arguments: &[&str], input: &[u8]) -> Run {
 /// Runs the built command.
 pub fn gate(arguments: &[&str]) -> Run {
     gate_with(arguments, b"")
+}
+
+/// The first character that an output must not hold: a control, a mark of direction, or one that takes no room.
+pub fn unseen(output: &str) -> Option<char> {
+    const RANGES: [(char, char); 9] = [
+        ('\u{ad}', '\u{ad}'),
+        ('\u{61c}', '\u{61c}'),
+        ('\u{180e}', '\u{180e}'),
+        ('\u{200b}', '\u{200f}'),
+        ('\u{2028}', '\u{202e}'),
+        ('\u{2060}', '\u{206f}'),
+        ('\u{feff}', '\u{feff}'),
+        ('\u{fff9}', '\u{fffb}'),
+        ('\u{e0000}', '\u{e0fff}'),
+    ];
+    output.chars().find(|c| (c.is_control() && *c != '\n') || RANGES.iter().any(|(first, last)| (first..=last).contains(&c)))
 }
 
 /// The names of all examples, in order.

@@ -1,6 +1,6 @@
 //! JSON and pictures say what the card says.
 
-use crate::{example_names, gate, json_reader, root, xml_reader};
+use crate::{example_names, gate, json_reader, root, unseen, xml_reader};
 use gate_runtime::cards::{Card, Outcome};
 use gate_runtime::{json, svg};
 use std::fs;
@@ -99,9 +99,12 @@ fn pictures_of_all_plans_are_well_formed_and_hold_the_ranges() {
 }
 
 #[test]
-fn a_file_name_cannot_break_a_picture() {
-    let card = Card::of("<&\"'>\u{1}\u{ffff}.plan", b"leaf a : int, whole [-5, 3]\nb = add a a\n");
-    assert!(picture(&card).contains(&"<&\"'>\u{fffd}\u{fffd}.plan: accepted".to_string()));
+fn a_file_name_cannot_break_a_picture_or_json() {
+    let name = "<&\"'>\u{1}\u{ffff}\u{202e}\u{e0001}.plan";
+    let card = Card::of(name, b"leaf a : int, whole [-5, 3]\nb = add a a\n");
+    assert!(picture(&card).contains(&"<&\"'>\u{fffd}\u{fffd}\u{fffd}\u{fffd}.plan: accepted".to_string()));
+    let text = json::document(&[card]).write();
+    assert_eq!((unseen(&text), json_reader::read(&text).unwrap().at("plans").list()[0].at("file").text()), (None, name));
 }
 
 /// The deepest and the widest plan: boxes of a layer never overlap.

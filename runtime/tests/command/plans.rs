@@ -53,6 +53,10 @@ fn categories_of_every_kind_are_read() {
     assert_eq!(nature("float, categories {nan, -inf, 0.5}"), "FloatCategories([[NaN, -inf, 0.5]])");
     assert_eq!(nature("float, range [1, 2]"), "FloatRange([Ends { lower: Some(1.0), upper: Some(2.0) }])");
     assert_eq!(nature("int, whole no lists"), "WholeCategories([])");
+    assert_eq!(nature("str, text no lists"), "TextCategories([])");
+    assert_eq!(nature("str, text {\"a\", \"\"} {}"), "TextCategories([[[97], []], []])");
+    assert_eq!(nature("int, text {\"#\"}  # behind it"), "TextCategories([[[35]]])");
+    assert_eq!(nature("str, categories {\"é\",\n\"}\"}"), "TextCategories([[[195, 169], [125]]])");
     assert_eq!(nature("int, float no ranges"), "FloatRange([])");
 }
 
@@ -96,7 +100,8 @@ const LEAF_MISTAKES: &[Mistake] = &[
     ("leaf a : int, whole [1, 2", "1:26: expected `]` after the upper end, found the end of the line", ""),
     ("leaf a : int, whole", "1:20: expected a range `[..]` or a category list `{..}`, found the end of the line", ""),
     ("leaf a : int, bool [0, 1]", "1:20: expected a category list `{..}`, found `[`", ""),
-    ("leaf a : str, range [0, 1]", "1:15: expected the kind: `whole`, `float` or `bool`, found `range`", "type str"),
+    ("leaf a : str, range [0, 1]", "1:15: expected the kind: `whole` or `float`, found `range`", "type str"),
+    ("leaf a : unknown, categories {1}", "1:19: expected the kind: `whole`, `float`, `bool` or `text`, found `categories`", "type unknown"),
     ("leaf a : int, whole {1; 2}", "1:23: expected `,` or `}`, found `;`", ""),
     ("leaf a : int, whole [1, 2] {3}", "1:28: expected `,` or the end of the line, found `{`", ""),
     ("leaf a : int, relesable", "1:15: expected an item, found `relesable`", "did you mean `releasable`?"),
@@ -107,6 +112,35 @@ const LEAF_MISTAKES: &[Mistake] = &[
     ("leaf a : int, aggregator 0", "1:26: expected a whole number from 1 to 4294967295, found `0`", ""),
     ("leaf a : int, groups {1: real 3}", "1:26: expected the index's kind: `int`, `bool` or `str`, found `real`", ""),
     ("leaf a : int,", "1:14: expected an item such as `whole [-5, 3]`, `rows 8` or `releasable`, found the end of the line", ""),
+];
+
+const TEXT_MISTAKES: &[Mistake] = &[
+    (
+        "leaf a : str, text {\"north}, rows 1",
+        "1:21: expected a text with a quote at both ends, found the end of the line",
+        "a text ends in its line",
+    ),
+    (
+        "leaf a : str, text {\"north, \"south\"}",
+        "1:35: expected a text with a quote at both ends, found the end of the line",
+        "written \\\"",
+    ),
+    ("leaf a : str, text {\"a\\\"}", "1:21: expected a text with a quote at both ends, found the end of the line", "\\\""),
+    ("leaf a : str, text {\"é\\q\"}", "1:23: expected an escape, found `\\q`", "\\xHH for one byte"),
+    ("leaf a : str, text {\"a\", \"\\x4g\"}", "1:27: expected two hexadecimal digits after `\\x`, found `\\x4g`", "escapes are"),
+    ("leaf a : str, text {\"\\u{d800}\"}", "1:22: expected a character's number in `\\u{..}`, found `\\u{d800}`", "escapes are"),
+    ("leaf a : str, text {north}", "1:21: expected a text in quotes, found `north`", "for instance \"north\""),
+    ("leaf a : str, text {7}", "1:21: expected a text in quotes, found `7`", "for instance \"north\""),
+    ("leaf a : str, text {,}", "1:21: expected a text in quotes, found `,`", ""),
+    ("leaf a : str, text {\"a\" \"b\"}", "1:25: expected `,` or `}`, found `\"b\"`", ""),
+    ("leaf a : str, text [\"a\", \"b\"]", "1:20: expected a category list `{..}`, found `[`", ""),
+    ("leaf a : int, whole {\"1\"}", "1:22: expected a whole number, found `\"1\"`", "there are no quotes here"),
+    ("leaf a : int, whole [\"1\", 2]", "1:22: expected a lower end: a whole number, `-inf` or `..`, found `\"1\"`", "no quotes"),
+    ("leaf a : int, rows \"8\"", "1:20: expected a whole number or `absent`, found `\"8\"`", "there are no quotes here"),
+    ("leaf a : bool, bool {\"true\"}", "1:22: expected `true` or `false`, found `\"true\"`", ""),
+    ("leaf a : str, text {\"a\"}, whole {1}", "1:27: expected an item that is not given yet, found `whole`", "a range or categories"),
+    ("leaf a : str, texts {\"a\"}", "1:15: expected an item, found `texts`", "did you mean `text`?"),
+    ("leaf \"a\" : str", "1:6: expected a name for the leaf, found `\"a\"`", ""),
 ];
 
 const STEP_MISTAKES: &[Mistake] = &[
@@ -129,11 +163,30 @@ const STEP_MISTAKES: &[Mistake] = &[
 
 #[test]
 fn mistakes_are_named_with_their_place() {
-    for (source, message, help) in LEAF_MISTAKES.iter().chain(STEP_MISTAKES) {
+    for (source, message, help) in LEAF_MISTAKES.iter().chain(TEXT_MISTAKES).chain(STEP_MISTAKES) {
         let (found, hint) = problem(source);
         assert_eq!(found, *message, "{source}");
         assert!(hint.contains(help), "{source}: {hint}");
     }
+}
+
+/// The text that is too much is named by its place; sizes just within the limits reach the proved call.
+#[test]
+fn texts_over_a_limit_are_named() {
+    let many: Vec<String> = (0..129).map(|k| format!("\"{k}\"")).collect();
+    let leaf = |lists: &str| format!("leaf a : str, text {lists}\n");
+    let (found, help) = problem(&leaf(&format!("{{{}}}", many.join(","))));
+    assert_eq!(found, format!("1:{}: expected at most 128 texts in a leaf, found one more", 21 + many[..128].join(",").len() + 1));
+    assert_eq!(help, "all lists of the leaf count together");
+    let (found, _) = problem(&leaf(&format!("{{{}}}\u{20}{{\"x\"}}", many[..128].join(","))));
+    assert!(found.ends_with("expected at most 128 texts in a leaf, found one more"), "{found}");
+    let long = |length: usize| format!("\"{}\"", "é".repeat(length / 2));
+    let (found, help) = problem(&leaf(&format!("{{{}}} {{\"\\xff\"}}", long(1024))));
+    assert_eq!(found, "1:538: expected at most 1024 bytes of text in a leaf, found 1025 with this text");
+    assert_eq!(help, "all texts of the leaf count together, repeats too");
+    let within = leaf(&format!("{{{}, {}}}", many[..127].join(","), long(720)));
+    assert_eq!(text::read(&within).unwrap().leaves[0].nature.categories(), 128);
+    assert_eq!(Card::of("f", leaf(&format!("{{{}}}", long(1024))).as_bytes()).exit_code(), 0);
 }
 
 #[test]

@@ -3,7 +3,8 @@
 use crate::classes::{Class, Role};
 use crate::clock::{medians, spent};
 use crate::ways::{agree, measure, Way};
-use comparison::plans::{hold, lay_out, parse, walk, Draft, Plan, Request, Step, SLOT};
+use comparison::plans::{hold, lay_out, lay_out_by, parse, walk};
+use comparison::plans::{Draft, Plan, Request, Step, SLOT};
 use comparison::proved;
 use comparison::tally::Tally;
 use oracle_list::form::Call;
@@ -160,11 +161,11 @@ impl Trial {
         let proved = proved::propagate_properties;
         let port = plain_port::propagate_properties;
         let seconds = match which {
-            0 => walked(proved, &self.chain, self.turns),
+            0 => walked(proved, SLOT, &self.chain, self.turns),
             1 => measure(Way::Proved, &self.singles) / self.turns as f64,
-            2 => walked(proved, &self.leaf, self.leaf_turns),
-            3 => walked(proved, &self.leaves, self.turns),
-            _ => walked(port, &self.chain, self.turns),
+            2 => walked(proved, SLOT, &self.leaf, self.leaf_turns),
+            3 => walked(proved, SLOT, &self.leaves, self.turns),
+            _ => walked(port, SLOT, &self.chain, self.turns),
         };
         seconds * 1e9
     }
@@ -190,9 +191,10 @@ fn rows(kind: &Kind) -> Rows {
 }
 
 /// Seconds of a call, from so many over one work buffer: a call leaves the
-/// leaves as they are, so that the next does the same.
-fn walked(answer: Plan, request: &Request, turns: usize) -> f64 {
-    let mut work = lay_out(request, 0);
+/// leaves as they are, so that the next does the same. The buffer is laid out by
+/// the slot of the library that is asked.
+fn walked(answer: Plan, slot: usize, request: &Request, turns: usize) -> f64 {
+    let mut work = lay_out_by(slot, request, 0);
     spent(turns, || {
         black_box(answer(black_box(&request.plan), black_box(&mut work)));
     }) / turns as f64
@@ -250,15 +252,20 @@ fn single_calls(chain: &Request, turns: usize) -> Class {
 /// two plan calls, which take turns.
 #[cfg(before)]
 pub fn by_two(plans: [Plan; 2], mut show: impl FnMut(String, [f64; 2])) {
+    let slots = plans.map(slot_of);
     for kind in &KINDS {
         for nodes in NODES {
             let trial = Trial::new(kind, nodes);
+            for request in [&trial.chain, &trial.leaf] {
+                let [old, new] = [0, 1].map(|of| sheets(plans[of], slots[of], request));
+                assert!(old == new, "plans of {nodes} nodes differ: {}", kind.name);
+            }
             let ns = medians(ROUNDS, 4, |way| {
                 let (request, turns) = match way / 2 {
                     0 => (&trial.chain, trial.turns),
                     _ => (&trial.leaf, trial.leaf_turns),
                 };
-                walked(plans[way % 2], request, turns) * 1e9
+                walked(plans[way % 2], slots[way % 2], request, turns) * 1e9
             });
             show(format!("{}, plan of {nodes}", kind.name), [ns[0], ns[1]]);
             if nodes == NODES[0] {
@@ -266,6 +273,29 @@ pub fn by_two(plans: [Plan; 2], mut show: impl FnMut(String, [f64; 2])) {
             }
         }
     }
+}
+
+/// The slot of a library: the least work buffer that it takes for one leaf.
+#[cfg(any(before, test))]
+fn slot_of(answer: Plan) -> usize {
+    let leaf = leaves(&KINDS[0], 1);
+    let taken = |length: &usize| {
+        let mut work = lay_out(&leaf, 0);
+        work.truncate(*length);
+        answer(&leaf.plan, &mut work).0 == 0
+    };
+    (0..=SLOT).find(taken).expect("a slot of some length")
+}
+
+/// The reply to a request and the front of every slot behind it, as long as a
+/// leaf: a chain's sheets are all of one length.
+#[cfg(before)]
+fn sheets(answer: Plan, slot: usize, request: &Request) -> (comparison::Reply, Vec<Vec<u8>>) {
+    let mut work = lay_out_by(slot, request, 0);
+    let reply = answer(&request.plan, &mut work);
+    let length = request.leaves[0].len();
+    let fronts = work.chunks(slot).map(|slot| slot[..length].to_vec());
+    (reply, fronts.collect())
 }
 
 /// The longest chain of each kind, for the stack.
@@ -289,6 +319,19 @@ mod tests {
                 assert_eq!(trial.leaves.leaves.len(), nodes);
             }
         }
+    }
+
+    #[test]
+    fn a_library_s_slot_is_found() {
+        assert_eq!(slot_of(plain_port::propagate_properties), SLOT);
+        let shorter: Plan = |plan, work| {
+            let mut whole = lay_out(&leaves(&KINDS[0], 1), 0);
+            match work.len() < 1284 {
+                true => (27, 65_535),
+                false => plain_port::propagate_properties(plan, &mut whole),
+            }
+        };
+        assert_eq!(slot_of(shorter), 1284);
     }
 
     #[test]

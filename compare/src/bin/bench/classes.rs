@@ -2,7 +2,7 @@
 
 use oracle_list::form::{Call, Mark};
 use oracle_list::random::Random;
-use oracle_list::sheet::LONGEST;
+use oracle_list::sheet::{LONGEST, TEXT};
 use oracle_list::{generate, text};
 
 const SEED: u64 = 41;
@@ -16,6 +16,8 @@ pub enum Role {
     Accepted,
     /// A category product of 128 by 128.
     Square,
+    /// Texts, which a library from before document 02's S-2 refuses.
+    Text,
     Other,
 }
 
@@ -37,7 +39,7 @@ struct Fixed {
     turns: usize,
 }
 
-const FIXED: [Fixed; 7] = [
+const FIXED: [Fixed; 8] = [
     Fixed {
         name: "Add, whole ranges, 1 column",
         role: Role::Other,
@@ -94,6 +96,14 @@ const FIXED: [Fixed; 7] = [
         right: "absent",
         turns: 1_500,
     },
+    Fixed {
+        name: "Add, 11 by 11 texts of 4 bytes, 121 results",
+        role: Role::Text,
+        component: 2,
+        left: "T{11#4}",
+        right: "T{11#4}",
+        turns: 200,
+    },
 ];
 
 pub fn classes() -> Vec<Class> {
@@ -131,12 +141,16 @@ fn refused(code: u32, mark: Mark) -> bool {
     (6..=23).contains(&code) && mark == Mark::Rust
 }
 
-/// Generated calls whose answer is wanted.
+/// Generated calls whose answer is wanted. Texts have a row of their own: without
+/// them a library from before them can be held against this one.
 fn drawn(wanted: impl Fn(u32, Mark) -> bool) -> Vec<Call> {
     let mut random = Random::new(SEED);
     let mut calls = Vec::new();
     while calls.len() < DRAWN {
         let mut call = generate::call(&mut random);
+        if [&call.left, &call.right].map(|sheet| sheet.get(6) == Some(&TEXT)) != [false; 2] {
+            continue;
+        }
         let answer =
             oracle_original::answer(call.component, call.node, &call.left, &call.right, LONGEST);
         if wanted(answer.code, answer.mark) {

@@ -10,6 +10,7 @@ use mir.Syntax.{w64}
 use mir.Val.{toZ, ofZ}
 use denote.Ref.{now}
 use borrow.Author.Needs.{needs}
+use Rattle.numbers.specs.Kind.{eqZ}
 use Rattle.utilities.specs.Noted.{Hinting}
 use Rattle.utilities.proofs.Begins.{begins-room, notes-at, notes-full}
 use Rattle.utilities.proofs.Hints.{hinting-at, hinting-full}
@@ -24,7 +25,7 @@ all-taken {hints} store k r h e w = subst (Hinting hints) (take-all k store h �
 returns : tie.Need-returns
 returns c =
     let s = c .before .before in
-    (s .pre .0, s .pre .2, λ seen h. stored-over h (s .args .k) _ (c .if1 .taken) (c .if1 .taken))
+    (s .pre .0, s .pre .2, λ seen h. stored-over eqZ h (s .args .k) _ (c .if1 .taken) (c .if1 .taken))
 
 returns-2 : tie.Need-returns-2
 returns-2 c =
@@ -40,7 +41,7 @@ returns-2 c =
     let above : length store < a .k + 1 = omega (arith, lacks .full) in (
       omega (arith, room),
       all-taken after (a .k) (a .k + 1) (omega (arith, size, lacks .full)) (omega (arith, size, above)) (hinting-full (a .k) after (c .enum-told .given .1) (n .note-hinted .ensures .1)),
-      λ seen h. stored-full h read room (a .k + 1) above lacks,
+      λ seen h. stored-full eqZ h read room (a .k + 1) above (lacks .new) (omega (arith, lacks .full)) (lacks .same),
     )
 
 returns-3 : tie.Need-returns-3
@@ -55,7 +56,7 @@ returns-3 c =
     let begins = notes-at (a .k) _ store after (c .before .m .given .1) (n .note-hinted .ensures .0) in (
       omega (arith, begins-room begins, n .note-hinted .kept .0),
       hinting-at (a .k) after (c .before .m .given .1) (n .note-hinted .ensures .1),
-      λ seen h. stored-noted h read room begins,
+      λ seen h. stored-noted eqZ h read room (begins .start) (begins-room begins),
     )
 
 pub note-result-spec : {M : Type 1} → statement M

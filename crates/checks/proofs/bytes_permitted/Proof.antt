@@ -1,11 +1,9 @@
 -- `checks::bytes_permitted` meets its contract. Assumes nothing.
 use borrow.Author.Needs.{needs}
-use Rattle.base.specs.Checks.{bytesPermitted}
 use Rattle.checks.proofs.bytes_permitted.Statement.{statement}
 use Rattle.checks.proofs.bytes_permitted.Tie as tie
 
 returns : tie.Need-returns
-unfolding bytesPermitted
 returns c =
     let c₁ = c .before in
     let d = c₁ .before .before .before in
@@ -17,7 +15,7 @@ returns c =
       d .byte-in3 .ensures,
       c₁ .before .before .byte-in4 .ensures,
       c₁ .before .byte-in5 .ensures,
-      c₁ .reserved-permitted .ensures,
+      c₁ .tail-permitted .ensures,
       c .gap-permitted .ensures,
     )
 

@@ -3,7 +3,7 @@ use mathlib.Core.Path.{sym, _∙_}
 use borrow.Author.Needs.{needs}
 use Rattle.numbers.specs.Result.{checked}
 use Rattle.base.specs.Checks.{read}
-use Rattle.base.proofs.Permitted.{fields-by}
+use Rattle.checks.proofs.Heads.{fields-parts}
 use Rattle.checks.proofs.check_sheet.Statement.{statement}
 use Rattle.checks.proofs.check_sheet.Tie as tie
 
@@ -18,7 +18,7 @@ returns-2 : tie.Need-returns-2
 unfolding read checked
 returns-2 c =
     let b = c .before .before in
-    rw (sym (b .before .sizes-fail .ensures) ∙ b .if1 .left, fields-by, sym (c .before .head-fails .ensures) ∙ c .if2 .taken)
+    rw (sym (b .before .sizes-fail .ensures) ∙ b .if1 .left, fields-parts, sym (c .before .head-fails .ensures) ∙ c .if2 .taken)
 
 nature-faults-requires : tie.Need-nature-faults-requires
 nature-faults-requires c κs = let b = c .before .before in sym (b .before .sizes-fail .ensures) ∙ b .if1 .left
@@ -30,7 +30,7 @@ returns-3 c =
     let b = h .before .before in
     rw (
       sym (b .before .sizes-fail .ensures) ∙ b .if1 .left,
-      fields-by,
+      fields-parts,
       sym (h .before .head-fails .ensures) ∙ h .if2 .left,
       sym (c .before .nature-faults .ensures .fields) ∙ c .if3 .taken,
     )
@@ -43,7 +43,7 @@ returns-4 c =
     let b = h .before .before in
     rw (
       sym (b .before .sizes-fail .ensures) ∙ b .if1 .left,
-      fields-by,
+      fields-parts,
       sym (h .before .head-fails .ensures) ∙ h .if2 .left,
       sym (n .before .nature-faults .ensures .fields) ∙ n .if3 .left,
       sym (n .before .nature-faults .ensures .bounds) ∙ c .if4 .taken,
@@ -57,7 +57,7 @@ returns-5 c =
     let b = h .before .before in
     rw (
       sym (b .before .sizes-fail .ensures) ∙ b .if1 .left,
-      fields-by,
+      fields-parts,
       sym (h .before .head-fails .ensures) ∙ h .if2 .left,
       sym (n .before .nature-faults .ensures .fields) ∙ n .if3 .left,
       sym (n .before .nature-faults .ensures .bounds) ∙ c .if4 .left,

@@ -83,7 +83,7 @@ take-steps-requires-2 c κs =
     let done = told .before .before .before .before .before .before .before .before .before .before .before in
     let r = ready (begun done) in
     let n = subst (Reaches false (p (begun done))) (told .ranges .given .1) (done .take-steps .ensures .1) in
-    ((record { formed = r .0 .formed; room = omega (arith, r .0 .room, done .take-steps .kept) }, n .1, n .2), (search needs, λ e. record { stores = search needs; arrays = search needs; sheet-room = search needs }))
+    ((record { formed = r .0 .formed; room = omega (arith, r .0 .room, done .take-steps .kept) }, n .1, n .2), (search needs, λ e. record { lists = record { stores = search needs; arrays = search needs; sheet-room = search needs }; texts = record { stores = search needs; sheet-room = search needs } }))
 
 walked-reply-requires-3 : tie.Need-walked-reply-requires-3
 walked-reply-requires-3 c κs =

@@ -10,7 +10,7 @@ use Rattle.writer.specs.Written.{inWriting}
 use Rattle.calls.specs.Natures.{listChecks}
 use Rattle.natures.specs.Code.{hasRule}
 use Rattle.lending.proofs.Lending.{stands, alone, used, lists-room}
-use Rattle.natures.proofs.Listing.{Fine, code-is, fine, is-whole, fine-listed, alone-fails, bool-alone, alone-ruled}
+use Rattle.natures.proofs.Listing.{Fine, code-is, fine, fine-listed, alone-fails, other-alone, alone-ruled}
 use Rattle.natures.proofs.propagate_unary_categorical_nature.Statement.{statement}
 use Rattle.natures.proofs.propagate_unary_categorical_nature.Tie as tie
 
@@ -39,13 +39,13 @@ passes : (c : tie.Else1) → let a = c .before .before .before .before .before .
 passes c = fine (c .before .before .before .before .before .before .before .before .pre .0 .0) (none c)
 
 whole : (c : tie.Else2) → let a = c .before .before .before .before .before .before .before .before .before .args in byteAt (formOf (a .f)) natureAt (now (a .s)) ≡ 3
-whole c = is-whole (passes (c .before)) (λ e. c .if2 .left (c .before .before .before .before .nature-of .ensures ∙ e))
+whole c = sym (c .before .before .before .before .nature-of .ensures) ∙ c .if2 .left
 
 returns-2 : tie.Need-returns-2
 returns-2 c =
     let a = c .before .before .before .before .before .before .before .before .before .args in
     let F = formOf (a .f) in
-    let e = bool-alone (F .categoryLimit) (a .c) (a .data-type) (a .columns) F (now (a .s)) (none (c .before)) (sym (c .before .before .before .before .nature-of .ensures) ∙ c .if2 .taken) in
+    let e = other-alone (F .categoryLimit) (a .c) (a .data-type) (a .columns) F (now (a .s)) (none (c .before)) (passes (c .before)) (λ e. c .if2 .taken (c .before .before .before .before .nature-of .ensures ∙ e)) in
     (ap (inWriting F) (sym e), tt)
 
 lists-alone-requires : tie.Need-lists-alone-requires

@@ -60,12 +60,21 @@ module _ (t : tie.At-loop Inv-loop μ-loop) where
   large e =
       let i = t .loop .inv in
       let l = start .pre .1 .1 e in
-      let s = l .stores in
-      let a = l .arrays in
+      let s = l .lists .stores in
+      let a = l .lists .arrays in
+      let x = l .texts .stores in
+      let r = l .lists .sheet-room in
+      let q = l .texts .sheet-room in
       record {
-        stores = record { lefts = omega arith; rights = omega arith; results = omega arith; hinted = omega arith };
-        arrays = record { numbered = omega arith; valued = omega arith };
-        sheet-room = omega arith;
+        lists = record {
+          stores = record { lefts = omega arith; rights = omega arith; results = omega arith; hinted = omega arith };
+          arrays = record { numbered = omega arith; valued = omega arith };
+          sheet-room = omega arith;
+        };
+        texts = record {
+          stores = record { lefts = omega arith; rights = omega arith; results = omega arith; numbered = omega arith; valued = omega arith };
+          sheet-room = omega arith;
+        };
       }
 
 -- ---- in a turn

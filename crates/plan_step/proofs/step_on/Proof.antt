@@ -15,7 +15,7 @@ use Rattle.lending.specs.Code.{holdsCategories}
 use Rattle.plan_form.specs.Form.{leftOf, rightOf}
 use Rattle.calls.specs.Walk.{slotAt, sheetIn}
 use Rattle.plan_leaves.proofs.Parts.{part-lent, part-back}
-use Rattle.plan_step.proofs.Stepping.{step-unlisted, step-taken, step-lent, left-joins}
+use Rattle.plan_step.proofs.Stepping.{step-unlisted, step-taken, step-lent, left-joins, left-texts}
 use Rattle.plan_step.proofs.step_on.Statement.{statement}
 use Rattle.plan_step.proofs.step_on.Tie as tie
 
@@ -54,11 +54,16 @@ module _ (e : tie.After-sheet-end2) where
   right-sheet : right-part ≡ sheetIn narrow (rightOf plan (start .args .k)) work
   right-sheet = e .sheet-end2 .ensures .bytes ∙ ap (λ (j : ℕ). sheetIn narrow j work) (e .before .before .before .right-operand .ensures)
 
+  held : holdsCategories narrow left-part ≡ true → holdsCategories narrow (sheetIn narrow (leftOf plan (start .args .k)) work) ≡ true
+  held h = subst (λ (l : List ℕ). holdsCategories narrow l ≡ true) left-sheet h
+
 step-requires : tie.Need-step-requires
 step-requires c κs =
     let e = c .before .before .before .before .before .before .before .before .before in
     let s = start e in
-    step-lent (s .pre .0 .1) (λ j. s .pre .1 (subst (λ (l : List ℕ). holdsCategories narrow l ≡ true) (left-sheet e) (left-joins (family e) narrow (left-part e) (right-part e) j)))
+    step-lent (s .pre .0 .1)
+    (λ j. s .pre .1 (held e (left-joins (family e) narrow (left-part e) (right-part e) j)) .lists)
+    (λ j. s .pre .1 (held e (left-texts (family e) narrow (left-part e) (right-part e) j)) .texts)
 
 -- its own slot begins within the work buffer
 sub-deliver-sheet : tie.Need-sub-deliver-sheet

@@ -1,14 +1,13 @@
 -- `pooling::behind_rows` meets its contract. Assumes nothing.
 use borrow.Author.Needs.{needs}
-use borrow.Author.Tests.{eq-eqb, ne-eqb}
 use Rattle.pooling.proofs.behind_rows.Statement.{statement}
 use Rattle.pooling.proofs.behind_rows.Tie as tie
 
 returns : tie.Need-returns
-returns c = let d = c .before .before .derived .given in rw (d .1, eq-eqb (d .0 .0) 26 (c .if1 .taken))
+returns c = let d = c .before .before .derived .given in rw (d .1, c .if1 .taken)
 
 returns-2 : tie.Need-returns-2
-returns-2 c = let d = c .before .before .derived .given in rw (d .1, ne-eqb (d .0 .0) 26 (c .if1 .left))
+returns-2 c = let d = c .before .before .derived .given in rw (d .1, c .if1 .left)
 
 returns-3 : tie.Need-returns-3
 returns-3 c = rw (c .enum-told .given .1)

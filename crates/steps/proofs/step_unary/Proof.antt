@@ -1,11 +1,14 @@
 -- `steps::step_unary` meets its contract. Assumes nothing.
 use mathlib.Core.Path.{_≡_, sym, _∙_}
+use native.Mathlib.Omega.{arith}
 use mir.Syntax.{w64}
 use mir.Val.{toZ, ofZ}
 use denote.Ref.{now}
 use borrow.Author.Needs.{needs}
 use Rattle.base.specs.Form.{formOf}
-use Rattle.lending.proofs.Lending.{stands}
+use Rattle.base.specs.Components.{familyOf}
+use Rattle.base.proofs.Forms.{laid}
+use Rattle.lending.proofs.Lending.{stands, nature-room}
 use Rattle.steps.proofs.Passing.{unary-columns}
 use Rattle.deliveries.proofs.Answers.{room, bounded}
 use Rattle.steps.proofs.Delivered.{unary-refused, unary-nature-refused, unary-written}
@@ -39,9 +42,12 @@ put-sheet-requires : tie.Need-put-sheet-requires
 put-sheet-requires c κs =
     let known = c .before .before .before .before .before in
     let nature = known .before .before .before .before .before .before .before .before .before .before in
-    let p = nature .before .before .before .before .before .before .before .before .before .before .before .before .before .before .before .pre in
+    let start = nature .before .before .before .before .before .before .before .before .before .before .before .before .before .before .before in
+    let a = start .args in
+    let p = start .pre in
     let call = nature .propagate-unary-nature in
-    room (rw (known .derived2 .given .1) at (call .ensures .1)) (p .0 .0 .sizes) (p .1 .0 .sheet-room)
+    let wide = nature-room (laid (a .f)) (familyOf (a .c)) (now (a .left)) (now (a .left)) in
+    room (rw (known .derived2 .given .1) at (call .ensures .1)) (p .0 .0 .sizes) (omega (arith, wide, p .1 .0 .sheet-room))
 
 returns-2 : tie.Need-returns-2
 returns-2 c =
@@ -66,12 +72,13 @@ returns-3 c =
     let start = code .before .before .before .before .before .before .before in
     let a = start .args in
     let back : toZ w64 (ofZ w64 (node .node-at .result)) ≡ node .node-at .result = search needs in
+    let wide = nature-room (laid (a .f)) (familyOf (a .c)) (now (a .left)) (now (a .left)) in
     let placed = rw (known .derived2 .given .1) at (nature .propagate-unary-nature .ensures .1) in (
       unary-written (formOf (a .f)) (a .c) (now (a .left)) (code .before .read-head .ensures) (code .unary-code .ensures) (width .columns-of .ensures)
           (width .before .if1 .left)
           (rw (known .derived2 .given .1) at (nature .propagate-unary-nature .ensures .0))
           (rw (back, node .node-at .ensures) at (put .put-sheet .ensures .front)),
-      bounded (now (a .left)) placed (start .pre .0 .0 .sizes) (start .pre .1 .0 .sheet-room) (put .put-sheet .ensures .next),
+      bounded (now (a .left)) placed (start .pre .0 .0 .sizes) (omega (arith, wide, start .pre .1 .0 .sheet-room)) (put .put-sheet .ensures .next),
     )
 
 pub step-unary-spec : {M : Type 1} → statement M

@@ -16,8 +16,8 @@ returns c =
     let third = fourth .before .before .before .before in
     let second = third .before .before .before .before in
     let first = second .before .before .before .before in
-    let zeros = fifth .put-u8 .ensures then sixth .put-u16 .ensures then seventh .put-u323 .ensures in
-    first .put-flags .ensures then second .put-u32 .ensures then third .put-u322 .ensures then fourth .put-presence .ensures then zeros
+    let area = fifth .put-u8 .ensures then sixth .put-u16 .ensures in
+    first .put-flags .ensures then second .put-u32 .ensures then third .put-u322 .ensures then fourth .put-presence .ensures then area then seventh .put-u323 .ensures
 
 pub put-marks-spec : {M : Type 1} → statement M
 put-marks-spec =

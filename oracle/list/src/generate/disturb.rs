@@ -1,13 +1,17 @@
 //! Changes that lead a pair of sheets towards one refusal.
 
 use super::numbers::{self, Scale, Taste};
+use super::texts;
 use crate::form::POOL;
 use crate::random::Random;
-use crate::sheet::{Key, Nature, Sheet};
+use crate::sheet::{Key, Nature, Sheet, MOST_TEXT, TEXT};
+
+/// The component that joins texts.
+const ADD: u32 = 2;
 
 /// The refusals that a call can be led to.
 pub const AIMS: &[u32] = &[
-    3, 4, 5, 6, 7, 8, 9, 10, 11, 12, 13, 14, 15, 16, 17, 18, 19, 20, 21, 22, 23, 24, 26,
+    3, 4, 5, 6, 7, 8, 9, 10, 11, 12, 13, 14, 15, 16, 17, 18, 19, 20, 21, 22, 23, 24, 26, 28,
 ];
 
 pub fn sheets(random: &mut Random, aim: u32, component: u32, left: &mut Sheet, right: &mut Sheet) {
@@ -20,8 +24,12 @@ pub fn sheets(random: &mut Random, aim: u32, component: u32, left: &mut Sheet, r
         23 => divisors(random, left, right),
         24 if component == POOL => far_rows(random, left, right),
         24 => extremes(random, left, right),
+        26 if matches!(component, ADD | POOL) && random.percent(30) => {
+            many_texts(random, component, left, right)
+        }
         26 if component == POOL => long_unions(random, left, right),
         26 => many_categories(random, left, right),
+        28 => long_texts(random, component, left, right),
         _ => (),
     }
 }
@@ -169,6 +177,7 @@ fn conditions(random: &mut Random, aim: u32, component: u32, left: &mut Sheet, r
     };
     let bits = |v: f64| v.to_bits();
     sheet.nature = match (aim, float) {
+        (15, _) if random.percent(20) => Nature::TextLists(texts::lists(random, 1)),
         (15, true) => match random.below(4) {
             0 => Nature::Absent,
             1 => Nature::FloatRange(vec![(None, Some(bits(3.0)))]),
@@ -203,11 +212,12 @@ fn natures(random: &mut Random, aim: u32, component: u32, left: &mut Sheet, righ
     let taste = Taste::new(random).above_zero();
     let kinds = match aim {
         17 => random.pick(&[(1, 2), (2, 1)]),
-        19 => random.pick(&[(5, 3), (3, 5), (5, 5), (4, 5), (5, 4)]),
-        20 => random.pick(&[(3, 3), (4, 4), (3, 4)]),
-        21 => random.pick(&[(3, 4), (4, 3)]),
-        _ if component == 8 => random.pick(&[(3, 3), (4, 4)]),
-        _ => (4, 4),
+        19 => random.pick(&[(5, 3), (3, 5), (5, 5), (4, 5), (5, 4), (6, 5), (5, 6)]),
+        20 => random.pick(&[(3, 3), (4, 4), (3, 4), (6, 6), (6, 3)]),
+        21 => random.pick(&[(3, 4), (4, 3), (3, 6), (6, 3), (4, 6), (6, 4)]),
+        _ if component == 8 => random.pick(&[(3, 3), (4, 4), (6, 6)]),
+        _ if component == ADD => (4, 4),
+        _ => random.pick(&[(4, 4), (6, 6)]),
     };
     left.nature = super::nature(random, kinds.0, taste, 1);
     right.nature = super::nature(random, kinds.1, taste, 1);
@@ -217,10 +227,10 @@ fn natures(random: &mut Random, aim: u32, component: u32, left: &mut Sheet, righ
         } else {
             right
         };
-        sheet.nature = if random.percent(60) {
-            Nature::WholeLists(Vec::new())
-        } else {
-            Nature::BoolLists(Vec::new())
+        sheet.nature = match random.below(5) {
+            0 | 1 => Nature::WholeLists(Vec::new()),
+            2 | 3 => Nature::BoolLists(Vec::new()),
+            _ => Nature::TextLists(Vec::new()),
         };
     }
 }
@@ -339,16 +349,48 @@ fn many_categories(random: &mut Random, left: &mut Sheet, right: &mut Sheet) {
     right.nature = Nature::WholeLists(vec![divisors]);
 }
 
+fn most_columns(left: &Sheet, right: &Sheet) -> usize {
+    left.columns.unwrap_or(1).max(right.columns.unwrap_or(1)) as usize
+}
+
+/// 26 by texts.
+fn many_texts(random: &mut Random, component: u32, left: &mut Sheet, right: &mut Sheet) {
+    let columns = most_columns(left, right);
+    let lists = match component {
+        POOL => texts::many_unions(random, columns),
+        _ => texts::many_joins(random, columns),
+    };
+    put_texts(left, right, lists);
+}
+
+/// 28: texts that take about 1,024 bytes as they would be written.
+fn long_texts(random: &mut Random, component: u32, left: &mut Sheet, right: &mut Sheet) {
+    let columns = most_columns(left, right);
+    let lists = match component {
+        POOL => texts::long_unions(random, columns),
+        _ => texts::long_joins(random, columns),
+    };
+    put_texts(left, right, lists);
+}
+
+fn put_texts(left: &mut Sheet, right: &mut Sheet, lists: [texts::List; 2]) {
+    let [of_left, of_right] = lists;
+    left.nature = Nature::TextLists(vec![of_left]);
+    right.nature = Nature::TextLists(vec![of_right]);
+}
+
 /// Damage to a sheet's bytes: towards 3 by its sizes, towards 4 by a field.
 pub fn bytes(random: &mut Random, aim: u32, bytes: &mut Vec<u8>) {
     if bytes.len() < 80 {
         return;
     }
-    if aim == 4 {
-        bad_field(random, bytes);
-        return;
+    if aim == 4 && random.percent(if bytes[6] == TEXT { 50 } else { 12 }) {
+        return bad_area(random, bytes);
     }
-    match random.below(8) {
+    if aim == 4 {
+        return bad_field(random, bytes);
+    }
+    match random.below(11) {
         0 => bytes.truncate(random.below(80)),
         1 => bytes.truncate(bytes.len() - 1),
         2 => bytes.push(0),
@@ -356,7 +398,73 @@ pub fn bytes(random: &mut Random, aim: u32, bytes: &mut Vec<u8>) {
         4 => bytes[random.pick(&[0, 2, 4])] = random.pick(&[5, 17, 129, 255]),
         5 => bytes[random.pick(&[1, 3, 5])] = random.pick(&[1, 128]),
         6 => bytes[random.pick(&[0, 2, 4])] ^= 1,
+        7 => bytes[26] ^= random.pick(&[1, 2, 128]),
+        8 => bytes[27] = random.pick(&[1, 4, 5, 255]),
+        9 => resize_area(random, bytes, MOST_TEXT + 1),
         _ => bytes.truncate(bytes.len().saturating_sub(9).max(80)),
+    }
+}
+
+/// Another size of the area, with all of its bytes.
+fn resize_area(random: &mut Random, bytes: &mut Vec<u8>, size: usize) {
+    let before = u16::from_le_bytes([bytes[26], bytes[27]]) as usize;
+    let arrays = bytes.len().saturating_sub(before).max(80);
+    bytes[26..28].copy_from_slice(&(size as u16).to_le_bytes());
+    bytes.resize(arrays + size, random.pick(b"\0ax"));
+}
+
+/// An area that is none of the texts': under another nature, or departing from
+/// end to end.
+fn bad_area(random: &mut Random, bytes: &mut Vec<u8>) {
+    let count = u16::from_le_bytes([bytes[4], bytes[5]]) as usize;
+    if bytes[6] != TEXT || count == 0 {
+        let size = random.pick(&[1, 2, 100, MOST_TEXT]);
+        return resize_area(random, bytes, size);
+    }
+    let values = 80 + 13 * bytes[0] as usize + count;
+    let half = |random: &mut Random| values + 4 * random.below(2 * count);
+    let at = half(random);
+    let word = |bytes: &[u8], at: usize| u32::from_le_bytes(bytes[at..at + 4].try_into().unwrap());
+    match random.below(4) {
+        0 => {
+            // Two starts or lengths change places.
+            let other = half(random);
+            let (first, second) = (word(bytes, at), word(bytes, other));
+            bytes[at..at + 4].copy_from_slice(&second.to_le_bytes());
+            bytes[other..other + 4].copy_from_slice(&first.to_le_bytes());
+        }
+        1 => {
+            let changed = word(bytes, at).wrapping_add(random.pick(&[1, 2, u32::MAX, 1 << 31]));
+            bytes[at..at + 4].copy_from_slice(&changed.to_le_bytes());
+        }
+        2 => {
+            // Behind the last text.
+            bytes.push(b'x');
+            let size = u16::from_le_bytes([bytes[26], bytes[27]]).wrapping_add(1);
+            bytes[26..28].copy_from_slice(&size.to_le_bytes());
+        }
+        _ => wrap_lengths(random, bytes, values, count),
+    }
+}
+
+/// One length more and another one less by the same: in 32 bits the texts
+/// still lie end to end.
+fn wrap_lengths(random: &mut Random, bytes: &mut [u8], values: usize, count: usize) {
+    let shift = random.pick(&[1 << 31, u32::MAX - 2, 5000]);
+    let (more, less) = (random.below(count), random.below(count));
+    let mut start = 0u32;
+    for value in 0..count {
+        let at = values + 8 * value;
+        let mut length = u32::from_le_bytes(bytes[at + 4..at + 8].try_into().unwrap());
+        if value == more {
+            length = length.wrapping_add(shift);
+        }
+        if value == less {
+            length = length.wrapping_sub(shift);
+        }
+        bytes[at..at + 4].copy_from_slice(&start.to_le_bytes());
+        bytes[at + 4..at + 8].copy_from_slice(&length.to_le_bytes());
+        start = start.wrapping_add(length);
     }
 }
 
@@ -371,12 +479,6 @@ fn bad_field(random: &mut Random, bytes: &mut [u8]) {
         5 => random.pick(&[40, 41, 47]),
         6 => 32 + random.below(40),
         _ => random.below(bytes.len()),
-    };
-    // Bytes 26 and 27 are to get a meaning; a list made today stays away.
-    let place = if place == 26 || place == 27 {
-        25
-    } else {
-        place
     };
     match random.below(4) {
         0 => bytes[place] ^= 1 << random.below(8),

@@ -28,7 +28,8 @@ returns-2 c =
 returns-3 : tie.Need-returns-3
 returns-3 c =
     let k = c .before .before .nature-of .ensures in
-    rw k (sym (else-sets-nullity (formOf (c .before .before .before .before .before .args .f)) (now (c .before .before .before .before .before .args .s)) (λ e. c .before .if1 .left (k ∙ e)) (λ e. c .if2 .left (k ∙ e))))
+    let b = c .before .before .before .before .before in
+    rw k (sym (else-sets-nullity (formOf (b .args .f)) (now (b .args .s)) (b .pre .1) (λ e. c .before .if1 .left (k ∙ e)) (λ e. c .if2 .left (k ∙ e))))
 
 pub divisor-sets-nullity-spec : {M : Type 1} → statement M
 divisor-sets-nullity-spec =

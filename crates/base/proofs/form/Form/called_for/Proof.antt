@@ -6,7 +6,7 @@ use Rattle.base.proofs.form.Form.called_for.Statement.{statement}
 use Rattle.base.proofs.form.Form.called_for.Tie as tie
 
 returns : tie.Need-returns
-returns c = rw (sym (c .before .is-range .ensures) ∙ c .if1 .taken) (omega arith)
+returns c = rw (sym (c .before .before .is-range .ensures) ∙ c .before .if1 .taken) (omega arith)
 
 returns-2 : tie.Need-returns-2
 returns-2 c = rw (sym (c .before .before .is-range .ensures) ∙ c .before .if1 .left) (omega arith)
@@ -19,9 +19,8 @@ called-for-spec =
     (λ c κs. search needs)
     (λ c. search needs)
     (λ c. search needs)
+    (λ c. search needs)
     returns
     (λ c κs. search needs)
-    (λ c. search needs)
-    (λ c. search needs)
     (λ c. search needs)
     returns-2)

@@ -1,6 +1,6 @@
--- `pooling::pooled_nature` meets its contract. Assumes nothing.
+-- `pool_nature::pooled_nature` meets its contract. Assumes nothing.
 use mathlib.Core.Path.{_≡_, sym, ap, ap₂, _∙_}
-use mathlib.Core.Bool.{Bool, true, false, _&&_}
+use mathlib.Core.Bool.{Bool, false, _&&_}
 use mathlib.Core.Logic.{inl}
 use denote.Ref.{now}
 use borrow.Author.Needs.{needs}
@@ -11,11 +11,10 @@ use Rattle.base.proofs.Flags.{and-both}
 use Rattle.writer.specs.Written.{inWriting}
 use Rattle.orders.specs.Parts.{isIntCopy}
 use Rattle.lending.specs.Code.{holdsCategories}
-use Rattle.lending.proofs.Lending.{stands}
 use Rattle.natures.specs.Code.{Lists}
-use Rattle.pooling.proofs.Natures.{held-lists, pooled-lists, pooled-apart}
-use Rattle.pooling.proofs.pooled_nature.Statement.{statement}
-use Rattle.pooling.proofs.pooled_nature.Tie as tie
+use Rattle.pool_nature.proofs.Natures.{held-lists, pooled-lists, pooled-apart}
+use Rattle.pool_nature.proofs.pooled_nature.Statement.{statement}
+use Rattle.pool_nature.proofs.pooled_nature.Tie as tie
 
 -- both hold categories
 listed : (c : tie.Then1) → let a = c .before .before .before .before .before .before .before .before .args in Lists (formOf (a .f)) (now (a .left)) × Lists (formOf (a .f)) (now (a .right))
@@ -41,23 +40,24 @@ returns c =
     let F = formOf (a .f) in
     let both = listed (c .before .before .before .before .before .before .before .before .before .before .before .before .before .before .before .before) in
     let call = c .before .before .before .before .before .before .before .before .before .united-categorical-nature .ensures in
-    let e = pooled-lists (s .pre .0 .0) (s .pre .0 .1) (F .categoryLimit) (a .c) (a .data-type) (a .columns) (both .0) (both .1) in
+    let e = pooled-lists (s .pre .0 .0) (s .pre .0 .1) (a .c) (a .data-type) (a .columns) (both .0) (both .1) in
     (call .0 ∙ ap (inWriting F) e, rw (s .pre .0 .3) (call .1))
 
 propagate-binary-nature-requires : tie.Need-propagate-binary-nature-requires
 propagate-binary-nature-requires c κs =
     let s = c .before .before .before .before .before .before .before .before .before .before .before .before .before .before in
+    let a = s .args in
     let p = s .pre in
-    ((p .0 .0, p .0 .1, p .0 .2, inl (ap (λ (f : Family). isIntCopy f (s .args .data-type)) (p .0 .3)), ap isUnary (p .0 .3)), p .1)
+    ((p .0 .0, p .0 .1, p .0 .2, inl (ap (λ (f : Family). isIntCopy f (a .data-type)) (p .0 .3)), ap isUnary (p .0 .3)), p .1)
 
 returns-2 : tie.Need-returns-2
 returns-2 c =
     let s = c .before .before .before .before .before .before .before .before .before .before .before .before .before .before .before .before .before .before .before .before .before .before .before .before in
     let a = s .args in
     let F = formOf (a .f) in
-    let call = c .before .before .before .before .before .before .before .before .before .propagate-binary-nature .ensures in
-    let e = pooled-apart (s .pre .0 .0) (s .pre .0 .1) (F .categoryLimit) (a .c) (a .data-type) (a .columns) (other (c .before .before .before .before .before .before .before .before .before .before .before .before .before .before .before .before)) in
-    (call .0 ∙ ap (inWriting F) e, call .1)
+    let call = c .before .before .before .before .before .before .before .before .before .propagate-binary-nature in
+    let e = pooled-apart (s .pre .0 .0) (s .pre .0 .1) (a .c) (a .data-type) (a .columns) (other (c .before .before .before .before .before .before .before .before .before .before .before .before .before .before .before .before)) in
+    (call .ensures .0 ∙ ap (inWriting F) e, call .ensures .1)
 
 pub pooled-nature-spec : {M : Type 1} → statement M
 pooled-nature-spec =
