@@ -6,6 +6,8 @@ mod made;
 mod pool;
 #[path = "../../port/tests/examples/shelf.rs"]
 mod shelf;
+#[path = "../../port/tests/examples/sign.rs"]
+mod sign;
 #[path = "../../port/tests/examples/text.rs"]
 mod text;
 

@@ -2,6 +2,7 @@
 pub mod Widths
 pub mod Signs
 pub mod Patterns
+pub mod SignBit
 pub mod Appends
 pub mod Deliveries
 pub mod Round

@@ -7,6 +7,7 @@ pub mod Pooled
 -- What passes 3 and 4 keeps to its form, and so does what is derived of it.
 pub mod Allowed
 pub mod Decoded
+pub mod Signs
 pub mod Made
 pub mod Derived
 pub mod Ended

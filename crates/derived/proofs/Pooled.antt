@@ -98,7 +98,7 @@ down-some : (e : ℤ) → 0 < down e
 down-some (pos k) = omega arith
 down-some (negsuc k) = pow-pos (suc k)
 
-abbrev Finite : Float → Type 0
+abbrev pub Finite : Float → Type 0
 Finite x = T (finite x)
 
 float-along : (a b c : Float) → Finite a → Finite b → Finite c → lt a b ≡ true → lt b c ≡ true → lt a c ≡ true
@@ -140,7 +140,7 @@ not-unbounded (some x) p = go (finite x) p
     go false p = absurd p
 
 -- what passes 5 has finite ends that are not crossed
-float-parts : (x : Span Float) → floatHolds x ≡ true → SpanFits Finite x × Ordered float x
+pub float-parts : (x : Span Float) → floatHolds x ≡ true → SpanFits Finite x × Ordered float x
 float-parts x p =
     let a = or-no (unbounded (x .lower) || unbounded (x .upper)) (crossed float (x .lower) (x .upper)) (not-true _ p) in
     let b = or-no (unbounded (x .lower)) (unbounded (x .upper)) (a .0) in

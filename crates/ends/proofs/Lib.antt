@@ -1,3 +1,4 @@
 -- What the proofs of both kinds cite.
 pub mod Rules
 pub mod Answers
+pub mod Signs

@@ -1,3 +1,4 @@
 pub mod Ends
 pub mod Code
 pub mod Ranges
+pub mod Signs

@@ -6,13 +6,16 @@ use ends::Ends;
 use ends::Range;
 use numbers::Float;
 ghost use mathlib.Core.Path.{_≡_};
+ghost use lib.Ieee.{neg};
 ghost use Rattle.numbers.specs.Result.{ok};
 ghost use Rattle.numbers.specs.Kind.{float, lesser, greater, least, greatest};
+ghost use Rattle.base.specs.Encode.{floatBits};
 ghost use Rattle.base.specs.Code.{floatEnd, ofFloat};
-ghost use Rattle.ends.specs.Ends.{fromTwo, fromOne, absLower, absUpper, absEnds, corners, mulCorners, mulEnds, divCorners, divUpper, divLower, divPresent, divBy, divEnds, endRule};
+ghost use Rattle.ends.specs.Ends.{fromTwo, fromOne, negEnds, absLower, absUpper, absEnds, corners, mulCorners, mulEnds, divCorners, divUpper, divLower, divPresent, divBy, divEnds, endRule};
+ghost use Rattle.ends.specs.Signs.{Number, NumberEnd, Numbers, copied, negated, endCopied, endNegated, negBits, absLowerBits, absUpperBits, absBits};
 ghost use Rattle.ends.specs.declared.End.the-variants as End;
 ghost use Rattle.ends.specs.Code.{floatSpan, endOf, endsOf, twoOf};
-ghost use Rattle.float_ends.specs.Code.{floatPair};
+ghost use Rattle.float_ends.specs.Code.{floatPair, endsBits};
 
 // Two numbers of which both are present.
 enum Pair {
@@ -35,7 +38,77 @@ fn pair_of(x: Range) -> Pair
     Pair::Both(a, c)
 }
 
-// ---- Add, Subtract, Negative, Modulo: unless the ends that a new end needs are present, it is absent
+// ---- the sign steps of Abs and Negative: copy and negate of IEEE 754-2008, 5.5.1
+
+// Keeps all 64 bits.
+fn copy(x: Float) -> Float
+    ensures value { λ r. ⌜ r ≡ x ⌝ }
+    ensures bits { λ r. ⌜ (Number x → floatBits r ≡ copied x) ⌝ }
+{
+    x
+}
+
+// Flips bit 63 and keeps the others, of zeros and infinities too. `0.0 - x` would make 0.0 of both zeros.
+fn negate(x: Float) -> Float
+    ensures value { λ r. ⌜ r ≡ neg x ⌝ }
+    ensures bits { λ r. ⌜ (Number x → floatBits r ≡ negated x) ⌝ }
+{
+    -x
+}
+
+// ---- Negative
+
+fn neg_end(x: Bound) -> Bound
+    ensures end { λ r. ⌜ End.Is r ≡ endOf ofFloat (fromOne (float .neg) (floatEnd x)) ⌝ }
+    ensures bits { λ r. ⌜ (NumberEnd (floatEnd x) → endCopied (floatEnd r) ≡ endNegated (floatEnd x)) ⌝ }
+{
+    let Bound::Float(a) = x else {
+        return Bound::Absent;
+    };
+    Bound::Float(negate(a))
+}
+
+fn neg_ends(x: Range) -> Ends
+    ensures ends { λ r. ⌜ r ≡ endsOf ofFloat (negEnds float (floatSpan x)) ⌝ }
+    ensures bits { λ r. ⌜ (Numbers (floatSpan x) → endsBits r ≡ ok (negBits (floatSpan x))) ⌝ }
+{
+    let lower = x.lower;
+    let upper = x.upper;
+    let l = neg_end(upper);
+    let u = neg_end(lower);
+    Ends::Are(Range { lower: l, upper: u })
+}
+
+// ---- Abs
+
+fn abs_lower(a: Float, c: Float) -> Float
+    ensures value { λ r. ⌜ ok r ≡ absLower float a c ⌝ }
+    ensures bits { λ r. ⌜ (Number a → Number c → floatBits r ≡ absLowerBits a c) ⌝ }
+{
+    if 0.0 < a { copy(a) } else { negate(c) }
+}
+
+fn abs_upper(a: Float, c: Float) -> Float
+    ensures value { λ r. ⌜ ok r ≡ absUpper float a c ⌝ }
+    ensures bits { λ r. ⌜ (Number a → Number c → floatBits r ≡ absUpperBits a c) ⌝ }
+{
+    if 0.0 < a + c { copy(c) } else { negate(a) }
+}
+
+fn abs_ends(x: Range) -> Ends
+    ensures ends { λ r. ⌜ r ≡ endsOf ofFloat (absEnds float (floatSpan x)) ⌝ }
+    ensures bits { λ r. ⌜ (Numbers (floatSpan x) → endsBits r ≡ ok (absBits (floatSpan x))) ⌝ }
+{
+    let Pair::Both(a, c) = pair_of(x) else {
+        return ends::unknown();
+    };
+    Ends::Are(Range {
+        lower: Bound::Float(abs_lower(a, c)),
+        upper: Bound::Float(abs_upper(a, c)),
+    })
+}
+
+// ---- Add, Subtract, Modulo: unless the ends that a new end needs are present, it is absent
 
 fn add_end(x: Bound, y: Bound) -> Bound
     ensures { λ r. ⌜ End.Is r ≡ endOf ofFloat (fromTwo (float .add) (floatEnd x) (floatEnd y)) ⌝ }
@@ -61,15 +134,6 @@ fn sub_end(x: Bound, y: Bound) -> Bound
     Bound::Float(a - b)
 }
 
-fn neg_end(x: Bound) -> Bound
-    ensures { λ r. ⌜ End.Is r ≡ endOf ofFloat (fromOne (float .neg) (floatEnd x)) ⌝ }
-{
-    let Bound::Float(a) = x else {
-        return Bound::Absent;
-    };
-    Bound::Float(-a)
-}
-
 // Remainders by a divisor that is at most x lie below it.
 fn last_end(x: Bound) -> Bound
     ensures { λ r. ⌜ End.Is r ≡ endOf ofFloat (fromOne (float .last) (floatEnd x)) ⌝ }
@@ -78,32 +142,6 @@ fn last_end(x: Bound) -> Bound
         return Bound::Absent;
     };
     Bound::Float(a)
-}
-
-// ---- Abs
-
-fn abs_lower(a: Float, c: Float) -> Float
-    ensures { λ r. ⌜ ok r ≡ absLower float a c ⌝ }
-{
-    if 0.0 < a { a } else { -c }
-}
-
-fn abs_upper(a: Float, c: Float) -> Float
-    ensures { λ r. ⌜ ok r ≡ absUpper float a c ⌝ }
-{
-    if 0.0 < a + c { c } else { -a }
-}
-
-fn abs_ends(x: Range) -> Ends
-    ensures { λ r. ⌜ r ≡ endsOf ofFloat (absEnds float (floatSpan x)) ⌝ }
-{
-    let Pair::Both(a, c) = pair_of(x) else {
-        return ends::unknown();
-    };
-    Ends::Are(Range {
-        lower: Bound::Float(abs_lower(a, c)),
-        upper: Bound::Float(abs_upper(a, c)),
-    })
 }
 
 // ---- Multiply
@@ -299,10 +337,7 @@ pub fn float_end_rule(c: Component, x: Range, y: Range) -> Ends
             upper: last_end(right_upper),
         }),
         Component::Log | Component::Power => ends::unknown(),
-        Component::Negative => Ends::Are(Range {
-            lower: neg_end(left_upper),
-            upper: neg_end(left_lower),
-        }),
+        Component::Negative => neg_ends(x),
         Component::Pool => Ends::Are(Range {
             lower: pool_lower(left_lower, right_lower),
             upper: pool_upper(left_upper, right_upper),

@@ -3,3 +3,4 @@ pub mod Computing
 pub mod Shelf
 pub mod Pooled
 pub mod Texts
+pub mod Signs

@@ -13,7 +13,7 @@ use Rattle.utilities.specs.Lists.{listFrom}
 use Rattle.base.specs.Form.{narrow, intType, floatType}
 use Rattle.base.specs.Sheet.{Nature, absent, wholeRange, floatRange, wholeLists, boolLists, floatLists, Sheet}
 use Rattle.base.specs.Encode.{encode}
-use Rattle.step_laws.specs.Computing.{computing}
+use Rattle.step_laws.specs.Computing.{computing, AllHold}
 use Rattle.step_laws.specs.Shelf.{range, between, minus}
 use Rattle.calls.specs.Single.{Outcome, outcome, single}
 
@@ -153,12 +153,8 @@ leaves (refused n) lent = outcome n 0 lent
 abbrev pub Holds : Example → Type 0
 Holds e = call e ≡ leaves (e .expected) (out e)
 
-unfoldable pub AllHold : List Example → Type 0
-AllHold [] = Unit {0}
-AllHold (e ∷ es) = Holds e × AllHold es
-
 -- every row of the table holds
-pub pooling : AllHold table
+pub pooling : AllHold Holds table
 unfolding table AllHold leaves computing
 pooling =
     (refl, (refl, (refl, (refl, (refl, (refl, (refl, (refl, (refl, (refl, (refl, (refl, (refl, (refl, (refl, (refl, (refl, (refl, tt))))))))))))))))))

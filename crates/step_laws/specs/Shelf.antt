@@ -11,7 +11,7 @@ use Rattle.bytes.specs.Deliver.{delivered}
 use Rattle.base.specs.Form.{narrow, intType}
 use Rattle.base.specs.Sheet.{Nature, wholeRange, wholeLists, Sheet}
 use Rattle.base.specs.Encode.{encode}
-use Rattle.step_laws.specs.Computing.{computing}
+use Rattle.step_laws.specs.Computing.{computing, AllHold}
 use Rattle.calls.specs.Single.{Outcome, outcome, single}
 
 -- the sheets of the examples: type Int, one row, one column, releasable, node 7, every other field zero or absent
@@ -122,12 +122,8 @@ leaves c (says n) = outcome n 0 out
 abbrev pub Holds : Example → Type 0
 Holds e = call e ≡ leaves (e .component) (e .expected)
 
-unfoldable pub AllHold : List Example → Type 0
-AllHold [] = Unit {0}
-AllHold (e ∷ es) = Holds e × AllHold es
-
 -- every row of the table holds
-pub shelf : AllHold table
+pub shelf : AllHold Holds table
 unfolding table AllHold leaves bytesOf computing
 shelf =
     (refl, (refl, (refl, (refl, (refl, (refl, (refl, (refl, (refl, (refl, (refl, (refl, (refl, (refl, (refl, tt)))))))))))))))

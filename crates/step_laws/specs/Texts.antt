@@ -11,7 +11,7 @@ use Rattle.utilities.specs.Lists.{listFrom}
 use Rattle.base.specs.Form.{narrow, intType}
 use Rattle.base.specs.Sheet.{Nature, absent, wholeLists, textLists, Sheet}
 use Rattle.base.specs.Encode.{spot, encode}
-use Rattle.step_laws.specs.Computing.{computing}
+use Rattle.step_laws.specs.Computing.{computing, AllHold}
 use Rattle.step_laws.specs.Shelf.{sheetOf, between, bytesOf}
 use Rattle.step_laws.specs.Pooled.{operand, pooled, most, leaves}
 use Rattle.calls.specs.Single.{Outcome, single}
@@ -169,12 +169,8 @@ table = rules ++ areas ++ limits
 abbrev pub Holds : Example → Type 0
 Holds e = call e ≡ leaves (e .expected) (out e)
 
-unfoldable pub AllHold : List Example → Type 0
-AllHold [] = Unit {0}
-AllHold (e ∷ es) = Holds e × AllHold es
-
 -- every row of the table holds
-pub texts : AllHold table
+pub texts : AllHold Holds table
 unfolding rules areas limits AllHold leaves bytesOf computing
 texts =
     (refl, (refl, (refl, (refl, (refl, (refl, (refl, (refl, (refl, (refl, (refl, (refl, (refl, (refl, (refl, (refl, (refl, (refl, (refl, (refl, (refl, (refl, (refl, (refl, (refl, (refl, (refl, (refl, tt))))))))))))))))))))))))))))

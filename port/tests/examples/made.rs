@@ -6,6 +6,9 @@ pub const SLOT: usize = 2308;
 
 pub type Entry = (Option<i64>, Option<i64>);
 
+/// The bits of an entry's ends.
+pub type Bits = (Option<u64>, Option<u64>);
+
 /// Type Int, releasable, one row, `columns` columns, nothing else.
 fn head(nature: u8, lists: usize, categories: usize, columns: u8) -> Vec<u8> {
     let mut bytes = vec![0; 80];
@@ -29,7 +32,7 @@ pub fn range(columns: u8, entries: &[Entry]) -> Vec<u8> {
 }
 
 /// A range of the kind that `nature` says, its ends as bits.
-fn bounds(nature: u8, columns: u8, entries: &[(Option<u64>, Option<u64>)]) -> Vec<u8> {
+fn bounds(nature: u8, columns: u8, entries: &[Bits]) -> Vec<u8> {
     let mut bytes = head(nature, entries.len(), 0, columns);
     let lowers = entries.iter().map(|entry| entry.0);
     for end in lowers.chain(entries.iter().map(|entry| entry.1)) {
@@ -45,8 +48,12 @@ pub fn w(lower: i64, upper: i64) -> Vec<u8> {
 
 /// A float range of type Float.
 pub fn f(lower: f64, upper: f64) -> Vec<u8> {
-    let bits = (Some(lower.to_bits()), Some(upper.to_bits()));
-    with(bounds(2, 1, &[bits]), &[(TYPE, 3)])
+    float_range(1, &[(Some(lower.to_bits()), Some(upper.to_bits()))])
+}
+
+/// The same with any entries, their ends as bits.
+pub fn float_range(columns: u8, entries: &[Bits]) -> Vec<u8> {
+    with(bounds(2, columns, entries), &[(TYPE, 3)])
 }
 
 pub fn list(values: &[i64]) -> Vec<u8> {

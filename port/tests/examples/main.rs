@@ -3,6 +3,7 @@
 mod made;
 mod pool;
 mod shelf;
+mod sign;
 mod text;
 
 /// Who answers.

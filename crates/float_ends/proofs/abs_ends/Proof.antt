@@ -1,17 +1,34 @@
 -- `float_ends::abs_ends` meets its contract. Assumes nothing.
+use mathlib.Core.Path.{sym, ap, subst, _∙_}
 use borrow.Author.Needs.{needs}
+use Rattle.base.specs.Code.{floatEnd}
 use Rattle.ends.specs.Ends.{absEnds}
 use Rattle.ends.proofs.Rules.{both-on}
+use Rattle.ends.proofs.Signs.{bits-on, NumbersOn, numbers-on}
+use Rattle.float_ends.specs.Code.{floatPair}
 use Rattle.float_ends.proofs.abs_ends.Statement.{statement}
 use Rattle.float_ends.proofs.abs_ends.Tie as tie
+
+returns : tie.Need-returns
+unfolding absEnds
+returns c =
+    let pair = c .before .before .before .pair-of .ensures in
+    let told = c .before .enum-told .given .1 in
+    (rw (both-on, ← pair, told) (c .unknown .ensures), λ n. rw (bits-on, ← pair, told, c .unknown .ensures))
 
 returns-2 : tie.Need-returns-2
 unfolding absEnds
 returns-2 c =
-    rw (both-on, ← c .before .before .before .before .before .pair-of .ensures, c .before .before .before .a .given .1, ← c .before .abs-lower .ensures, ← c .abs-upper .ensures)
+    let pair = c .before .before .before .before .before .pair-of .ensures in
+    let told = c .before .before .before .a .given .1 in
+    let low = c .before .abs-lower .ensures in
+    let high = c .abs-upper .ensures in
+    let x = c .before .before .before .before .before .before .args .x in (
+      rw (both-on, ← pair, told, ← low .0, ← high .0),
+      λ n. let m = subst NumbersOn (sym pair ∙ ap floatPair told) (numbers-on (floatEnd (x .lower)) (floatEnd (x .upper)) (n .0) (n .1)) in rw (bits-on, ← pair, told, low .1 (m .0) (m .1), high .1 (m .0) (m .1)),
+    )
 
 pub abs-ends-spec : {M : Type 1} → statement M
-unfolding absEnds
 abs-ends-spec =
     tie.close
     (tie.spec
@@ -19,7 +36,7 @@ abs-ends-spec =
     (λ c. search needs)
     (λ c. search needs)
     (λ c κs. search needs)
-    (λ c. rw (both-on, ← c .before .before .before .pair-of .ensures, c .before .enum-told .given .1) (c .unknown .ensures))
+    returns
     (λ c κs. search needs)
     (λ c κs. search needs)
     returns-2)

@@ -1,5 +1,6 @@
 -- `float_ends::abs_lower` meets its contract. Assumes nothing.
 use lib.Ieee.{ofBits}
+use borrow.Author.Needs.{needs}
 use Rattle.ends.specs.Ends.{absLower}
 use Rattle.float_ends.proofs.abs_lower.Statement.{statement}
 use Rattle.float_ends.proofs.abs_lower.Tie as tie
@@ -9,5 +10,7 @@ unfolding absLower ofBits
 abs-lower-spec =
     tie.close
     (tie.spec
-    (λ c. rw (c .if1 .taken))
-    (λ c. rw (c .if1 .left)))
+    (λ c κs. search needs)
+    (λ c κs. search needs)
+    (λ c. rw (c .before .if1 .taken) (rw (c .copy .ensures .0), λ n m. c .copy .ensures .1 n))
+    (λ c. rw (c .before .if1 .left) (rw (c .negate .ensures .0), λ n m. c .negate .ensures .1 m)))

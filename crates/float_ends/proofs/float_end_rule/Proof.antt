@@ -6,7 +6,7 @@ use Rattle.numbers.specs.Kind.{float}
 use Rattle.base.specs.Code.{ofFloat}
 use Rattle.ends.specs.Ends.{addEnds, subEnds, endRule}
 use Rattle.ends.proofs.Rules.{rule-absent}
-use Rattle.ends.proofs.Answers.{two-ends, neg-ends, mod-ends, pool-ends}
+use Rattle.ends.proofs.Answers.{two-ends, mod-ends, pool-ends}
 use Rattle.float_ends.proofs.float_end_rule.Statement.{statement}
 use Rattle.float_ends.proofs.float_end_rule.Tie as tie
 
@@ -32,16 +32,15 @@ float-end-rule-spec =
     (λ c κs. search needs)
     (λ c. search needs)
     (λ c κs. search needs)
-    (λ c κs. search needs)
     (λ c. search needs)
     (λ c κs. search needs)
     (λ c κs. search needs)
-    (λ c. rw (c .before .enum-told .given .1) (c .abs-ends .ensures))
+    (λ c. rw (c .before .enum-told .given .1) (c .abs-ends .ensures .0))
     (λ c. rw (c .before .before .enum-told2 .given .1) (two-ends ofFloat (float .add) _ _ (c .before .add-end .ensures) (c .add-end2 .ensures) refl))
     (λ c. rw (c .before .before .enum-told3 .given .1) (two-ends ofFloat (float .sub) _ _ (c .before .sub-end .ensures) (c .sub-end2 .ensures) refl))
     (λ c. rw (c .before .enum-told4 .given .1) (c .mul-ends .ensures))
     (λ c. rw (c .before .enum-told5 .given .1) (c .div-ends .ensures))
     (λ c. rw (c .before .enum-told6 .given .1) (mod-ends ofFloat float _ _ (c .last-end .ensures) refl))
     (λ c. rw (rule-absent float _ _ (c .before .before .args .c) (c .before .match .keys7)) (c .unknown .ensures))
-    (λ c. rw (c .before .before .enum-told7 .given .1) (neg-ends ofFloat float _ (c .before .neg-end .ensures) (c .neg-end2 .ensures) refl))
+    (λ c. rw (c .before .enum-told7 .given .1) (c .neg-ends .ensures .0))
     (λ c. rw (c .before .before .enum-told8 .given .1) (pool-ends ofFloat float _ _ (c .before .pool-lower .ensures) (c .pool-upper .ensures) refl)))
