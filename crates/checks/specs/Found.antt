@@ -1,4 +1,4 @@
--- What one pass over the entries of a range, and over a nature, finds by checks 4 and 5.
+-- What one pass over a nature finds by checks 4 and 5.
 use mathlib.Core.Path.{_≡_}
 use mathlib.Core.Bool.{Bool, true, cond, not, _&&_, _||_}
 use mathlib.Core.List.{List}
@@ -6,14 +6,8 @@ use Prim.Native.Nat.{ℕ}
 use lib.Dec.{eqb, leb}
 use Rattle.base.specs.Form.{Form, byteAt, natureAt, typeAt, nullityAt, releasableAt, notEmptyAt, orderedAt, reservedAt, laterAt, laterCount, lastNature, lastType, textListsNature, categoryCount, areaSize}
 use Rattle.base.specs.Decode.{natureIn}
-use Rattle.base.specs.Checks.{holdsFrom, flagPermitted, gapPermitted, valuesPermitted, groupsPermitted, endsPermitted, endToEnd, naturePermitted, boundsFail}
-use Rattle.checks.specs.declared.spans.Faults.{Faults}
-use Rattle.base.specs.Entries.{entryHolds}
-
--- r is what 4 and 5 find in n entries, each of them in all
-pub record EntryFaults (F : Form) (floats : Bool) (s : List ℕ) (n : ℕ) (r : Faults) : Type 0 where
-  pub fields : r .fields ≡ not (holdsFrom n 0 (endsPermitted F s))
-  pub bounds : r .bounds ≡ not (holdsFrom n 0 (entryHolds F floats s))
+use Rattle.base.specs.Checks.{holdsFrom, flagPermitted, gapPermitted, valuesPermitted, groupsPermitted, endToEnd, naturePermitted, boundsFail}
+use Rattle.array_checks.specs.declared.Faults.{Faults}
 
 -- 4 as the code makes its tests: the bytes, and of all but texts those around the area's size, which is zero; the area of texts with the nature
 module _ (F : Form) (s : List ℕ) where

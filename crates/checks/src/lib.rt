@@ -1,20 +1,18 @@
 // Checks 3 to 5 of a sheet. Each test is computed whole, without a branch where it has no loop: a sheet that passes has every test made anyway.
+use array_checks::Faults;
 use base::form;
 use base::form::Form;
 use base::refusals;
-use spans::Faults;
 ghost use mathlib.Core.Path.{_≡_};
 ghost use mathlib.Core.Bool.{false};
-ghost use Prim.Native.Nat.{_+_, _*_, _^_, _≤_, _<_};
+ghost use Prim.Native.Nat.{_+_, _≤_, _<_};
 ghost use lib.Dec.{eqb};
 ghost use lib.ListN.{length};
 ghost use Rattle.base.specs.Form.{formOf, byteAt, laterAt, laterCount, fieldsEnd};
-ghost use Rattle.base.specs.Checks.{read, holdsFrom, sizesFail, fieldPermitted, gapPermitted, valuesPermitted, columnsPermitted, keyPermitted, groupsPermitted, numberPermitted, listsPermitted, boolPermitted, endToEnd};
+ghost use Rattle.base.specs.Checks.{read, holdsFrom, sizesFail, fieldPermitted, gapPermitted, valuesPermitted, columnsPermitted, keyPermitted, groupsPermitted};
 ghost use Rattle.base.specs.Sized.{GroupsFit, ListsFit};
 ghost use Rattle.checks.specs.Found.{NatureFaults, tailPermitted, headBytes, headFault, aroundText};
 ghost use Rattle.base.specs.Code.{codeOf};
-
-mod spans; // 4 and 5 of a range
 
 // ---- 3
 
@@ -83,7 +81,7 @@ fn field_word(f: Form, s: &[u8], mark: usize, at: usize) -> u64
     requires { ⌜ (formOf f .arraysAt ≤ length (now s)) × (mark < fieldsEnd) × (at + 8 ≤ fieldsEnd) ⌝ }
     ensures { λ r. ⌜ eqb r 0 ≡ fieldPermitted (formOf f) (now (s .entry)) mark at ⌝ }
 {
-    spans::end_word(base::byte_in(f, s, mark), base::u64_in(f, s, at))
+    array_checks::end_word(base::byte_in(f, s, mark), base::u64_in(f, s, at))
 }
 
 fn columns_permitted(f: Form, s: &[u8]) -> bool
@@ -135,51 +133,6 @@ fn groups_permitted(f: Form, s: &[u8], g: usize) -> bool
     true
 }
 
-// ---- 4, categories
-
-// Whether no list number is below the one before it, and each is below n. Where none falls, the last is the greatest and is tested for all. Before the
-// first stands 0, which no number is below.
-fn numbers_permitted(f: Form, s: &[u8], g: usize, n: usize, t: usize) -> bool
-    requires { ⌜ ListsFit (formOf f) (now s) g n t ⌝ }
-    ensures { λ r. ⌜ r ≡ holdsFrom t 0 (numberPermitted (formOf f) (now (s .entry))) ⌝ }
-{
-    let mut fallen = false;
-    let mut last = 0;
-    let mut i = 0;
-    while i < t {
-        let number = base::list_number(f, s, g, n, t, i);
-        fallen = fallen | (number < last);
-        last = number;
-        i += 1;
-    }
-    !fallen & ((t == 0) | (last < n))
-}
-
-// Whether each of t values is 0 or 1.
-fn bools_permitted(f: Form, s: &[u8], g: usize, n: usize, t: usize) -> bool
-    requires { ⌜ ListsFit (formOf f) (now s) g n t ⌝ }
-    ensures { λ r. ⌜ r ≡ holdsFrom t 0 (boolPermitted (formOf f) (now (s .entry))) ⌝ }
-{
-    let mut bad = false;
-    let mut i = 0;
-    while i < t {
-        bad = bad | (1 < base::u64_at(s, f.value_at(g, t, i)));
-        i += 1;
-    }
-    !bad
-}
-
-fn lists_permitted(f: Form, s: &[u8], g: usize, n: usize, t: usize) -> bool
-    requires { ⌜ ListsFit (formOf f) (now s) g n t ⌝ }
-    ensures { λ r. ⌜ r ≡ listsPermitted (formOf f) (now (s .entry)) ⌝ }
-{
-    let numbers = numbers_permitted(f, s, g, n, t);
-    if base::nature_of(f, s) == form::BOOL_LISTS {
-        return numbers & bools_permitted(f, s, g, n, t);
-    }
-    numbers
-}
-
 // ---- 4, the text area
 
 // Whether the four bytes behind the area's size are zero.
@@ -190,23 +143,6 @@ fn later_permitted(f: Form, s: &[u8]) -> bool
     base::u32_in(f, s, form::LATER_AT) == 0
 }
 
-// Whether the t texts lie end to end from 0 to the area's end. Lengths of 32 bits are added in 64.
-fn texts_permitted(f: Form, s: &[u8], g: usize, n: usize, t: usize) -> bool
-    requires { ⌜ ListsFit (formOf f) (now s) g n t ⌝ }
-    ensures { λ r. ⌜ r ≡ endToEnd (formOf f) (now (s .entry)) t 0 0 ⌝ }
-{
-    let mut bad = false;
-    let mut at: u64 = 0;
-    let mut i = 0;
-    while i < t {
-        let v = base::u64_at(s, f.value_at(g, t, i));
-        bad = bad | (v % 0x1_0000_0000 != at);
-        at += v / 0x1_0000_0000;
-        i += 1;
-    }
-    !bad & (at == base::area_size(f, s) as u64)
-}
-
 // Whether the area of t texts is permitted, with the bytes around its size.
 fn area_permitted(f: Form, s: &[u8], g: usize, n: usize, t: usize) -> bool
     requires { ⌜ ListsFit (formOf f) (now s) g n t ⌝ }
@@ -214,7 +150,7 @@ fn area_permitted(f: Form, s: &[u8], g: usize, n: usize, t: usize) -> bool
 {
     (base::byte_in(f, s, form::RESERVED_AT) == 0)
         & later_permitted(f, s)
-        & texts_permitted(f, s, g, n, t)
+        & array_checks::texts_permitted(f, s, g, n, t)
 }
 
 // ---- 4 of all that stands before the nature's arrays; 4 and 5 of the nature, and of the text area
@@ -246,7 +182,7 @@ fn nature_faults(f: Form, s: &[u8]) -> Faults
         };
     }
     if form::is_range(nature) {
-        let entries = spans::entry_faults(f, s, nature == form::FLOAT_RANGE, g, n);
+        let entries = array_checks::entry_faults(f, s, nature == form::FLOAT_RANGE, g, n);
         return Faults {
             fields: (t != 0) | entries.fields,
             bounds: entries.bounds,
@@ -254,12 +190,12 @@ fn nature_faults(f: Form, s: &[u8]) -> Faults
     }
     if nature == form::TEXT_LISTS {
         return Faults {
-            fields: !(lists_permitted(f, s, g, n, t) & area_permitted(f, s, g, n, t)),
+            fields: !(array_checks::lists_permitted(f, s, g, n, t) & area_permitted(f, s, g, n, t)),
             bounds: false,
         };
     }
     Faults {
-        fields: !lists_permitted(f, s, g, n, t),
+        fields: !array_checks::lists_permitted(f, s, g, n, t),
         bounds: false,
     }
 }

@@ -1,4 +1,2 @@
 -- What the proofs of several functions cite.
-pub mod Listing
 pub mod Sorted
-pub mod Joined

@@ -1,38 +1,32 @@
 -- What two natures make, by their numbers.
---     number-of, count-of    the number and the list count of the nature that a sheet's bytes spell
 --     absent-left, absent-right, range-with-lists, lists-with-range, unequal-ranges, both-ranges, both-lists    of two natures
 --     alone-absent, alone-range, alone-lists    of one
 -- Assumes nothing.
-use mathlib.Core.Path.{_≡_, refl, sym, ap, subst, _∙_}
+use mathlib.Core.Path.{_≡_, refl, sym, ap, _∙_}
 use mathlib.Core.Bool.{Bool, true, false, _||_}
 use mathlib.Core.List.{List}
-use Prim.Native.Nat.{ℕ, zero, suc, _≤_}
+use Prim.Native.Nat.{ℕ}
 use native.Mathlib.Omega.{arith}
 use lib.IntN.{ℤ}
 use lib.Ieee.{Float}
-use lib.Dec.{T, eqb}
+use lib.Dec.{eqb}
 use borrow.Author.Tests.{eqb-true}
 use Rattle.numbers.specs.Result.{Result, ok, refused}
 use Rattle.numbers.specs.Kind.{Span, whole, float}
-use Rattle.base.specs.Form.{Form, byteAt, natureAt, isRangeNature, listCount}
+use Rattle.base.specs.Form.{Form, byteAt, natureAt, isRangeNature}
 use Rattle.base.specs.Sheet.{Nature, absent, wholeRange, floatRange, wholeLists, boolLists, floatLists, textLists}
-use Rattle.base.specs.Decode.{asWhole, asFloat, asBits, textIn, natureIn, entries}
-use Rattle.base.specs.Encode.{natureNumber, entryCount}
+use Rattle.base.specs.Decode.{asWhole, asFloat, natureIn, entries}
+use Rattle.base.specs.Encode.{natureNumber}
 use Rattle.base.specs.Components.{familyOf}
 use Rattle.base.specs.declared.Component.{Component}
 use Rattle.base.specs.declared.Component.the-variants as C
-use Rattle.base.proofs.Permitted.{permitted, nature-within}
-use Rattle.base.proofs.Natures.{nature-absent, nature-whole-range, nature-float-range, nature-whole-lists, nature-bool-lists, nature-float-lists, nature-text-lists}
+use Rattle.base.proofs.Natures.{nature-whole-range, nature-float-range}
 use Rattle.ends.specs.Ends.{endRule}
 use Rattle.ends.specs.Ranges.{wholeRule, rangeNature}
 use Rattle.ranges.proofs.Alone.{alone-is}
-use Rattle.category_lists.proofs.Operands.{lists-length}
 use Rattle.calls.specs.Natures.{listsAlone, wholeRangeWith, floatRangeWith, listsWith, twoNatures, unaryNature}
-use Rattle.lending.specs.Code.{Read}
-use Rattle.natures.specs.Code.{Lists, hasRule}
-
-pub yes-no : _≡_ {A = Bool} true false → ⊥
-yes-no e = subst T e tt
+use Rattle.list_codes.specs.Code.{hasRule}
+use Rattle.list_codes.proofs.Numbers.{yes-no}
 
 -- a range that is not float is whole
 range-whole : (k : ℕ) → isRangeNature k ≡ true → eqb k 2 ≡ false → k ≡ 1
@@ -41,35 +35,6 @@ range-whole k y e = go (eqb k 1) refl (rw e at y)
     go : (a : Bool) → eqb k 1 ≡ a → (a || false) ≡ true → k ≡ 1
     go true e h = eqb-true k 1 e
     go false e h = absurd (yes-no (sym h))
-
--- ---- a sheet's nature
-
-module _ (F : Form) (s : List ℕ) where
-  numbered : (k : ℕ) → k ≤ 6 → byteAt F natureAt s ≡ k → natureNumber (natureIn F s) ≡ k
-  numbered zero h e = ap natureNumber (nature-absent F s e)
-  numbered (suc zero) h e = ap natureNumber (nature-whole-range F s e)
-  numbered (suc (suc zero)) h e = ap natureNumber (nature-float-range F s e)
-  numbered (suc (suc (suc zero))) h e = ap natureNumber (nature-whole-lists F s e)
-  numbered (suc (suc (suc (suc zero)))) h e = ap natureNumber (nature-bool-lists F s e)
-  numbered (suc (suc (suc (suc (suc zero))))) h e = ap natureNumber (nature-float-lists F s e)
-  numbered (suc (suc (suc (suc (suc (suc zero)))))) h e = ap natureNumber (nature-text-lists F s e)
-  numbered (suc (suc (suc (suc (suc (suc (suc k))))))) h e = absurd (omega arith)
-
-  pub number-of : Read F s → natureNumber (natureIn F s) ≡ byteAt F natureAt s
-  number-of r = numbered (byteAt F natureAt s) (nature-within F s (permitted F s (r .fields))) refl
-
-  entered : (k : ℕ) → k ≤ 6 → eqb k 0 ≡ false → isRangeNature k ≡ false → byteAt F natureAt s ≡ k → entryCount (natureIn F s) ≡ listCount F s
-  entered zero h p n e = absurd (yes-no p)
-  entered (suc zero) h p n e = absurd (yes-no n)
-  entered (suc (suc zero)) h p n e = absurd (yes-no n)
-  entered (suc (suc (suc zero))) h p n e = ap entryCount (nature-whole-lists F s e) ∙ lists-length F s asWhole
-  entered (suc (suc (suc (suc zero)))) h p n e = ap entryCount (nature-bool-lists F s e) ∙ lists-length F s asBits
-  entered (suc (suc (suc (suc (suc zero))))) h p n e = ap entryCount (nature-float-lists F s e) ∙ lists-length F s asBits
-  entered (suc (suc (suc (suc (suc (suc zero)))))) h p n e = ap entryCount (nature-text-lists F s e) ∙ lists-length F s (textIn F s)
-  entered (suc (suc (suc (suc (suc (suc (suc k))))))) h p n e = absurd (omega arith)
-
-  pub count-of : Lists F s → entryCount (natureIn F s) ≡ listCount F s
-  count-of l = entered (byteAt F natureAt s) (nature-within F s (permitted F s (l .read .fields))) (l .present) (l .no-range) refl
 
 -- ---- by numbers alone
 

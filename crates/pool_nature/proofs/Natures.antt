@@ -22,15 +22,15 @@ use Rattle.base.specs.Form.{Form, byteAt, natureAt, isRangeNature}
 use Rattle.base.specs.Decode.{natureIn, lists, textIn}
 use Rattle.base.specs.Encode.{natureNumber, valueCount, textSize}
 use Rattle.base.specs.declared.Component.{Component}
-use Rattle.base.specs.declared.Family.the-variants as Fam
 use Rattle.base.proofs.Natures.{nature-text-lists}
 use Rattle.ends.specs.Ends.{endRule}
 use Rattle.ends.specs.Ranges.{wholeRule, rangePair}
 use Rattle.category_lists.specs.Categories.{keptTo, textKept, kept, sameText, united}
-use Rattle.lending.specs.Code.{Read, holdsCategories, holdsTexts, joinsTexts}
+use Rattle.lending.specs.Code.{Read, holdsCategories}
 use Rattle.lending.proofs.Lending.{stands}
-use Rattle.natures.specs.Code.{Lists}
-use Rattle.natures.proofs.Sorted.{number-of, both-lists}
+use Rattle.list_codes.specs.Code.{Lists}
+use Rattle.list_codes.proofs.Numbers.{number-of}
+use Rattle.natures.proofs.Sorted.{both-lists}
 use Rattle.calls.specs.Natures.{wholeListsOf, boolListsOf, unitedNature, listsUnited, wholeRangeWith, floatRangeWith, listsWith, twoNatures, listsPair, binaryNature, poolNature}
 
 -- ---- categories

@@ -12,7 +12,7 @@ ghost use Rattle.base.specs.declared.Family.the-variants as Fam;
 ghost use Rattle.category_lists.specs.Categories.{kept};
 ghost use Rattle.calls.specs.Natures.{listsUnited, poolNature};
 ghost use Rattle.lending.specs.Code.{Read, Ready, Lent, natureRoom};
-ghost use Rattle.natures.specs.Code.{Lists};
+ghost use Rattle.list_codes.specs.Code.{Lists};
 ghost use Rattle.writer.specs.Written.{inWriting, derivedIn, Within};
 
 // Two category operands of Pool: 19 to 21, then left's lists followed by right's.
@@ -32,7 +32,7 @@ fn united_categorical_nature(
     requires { ⌜ Lent Fam.Pool (formOf f) (now left) (now right) (now us) (now bs) (now store) (now hints) (now first) (now second) ⌝ }
     ensures { λ r. ⌜ (derivedIn r (now (first .exit)) (now (second .exit)) ≡ inWriting (formOf f) (andThen (listsUnited columns (natureIn (formOf f) (now (left .entry))) (natureIn (formOf f) (now (right .entry)))) (kept (formOf f)))) × Within (formOf f) (natureRoom Fam.Pool (formOf f) (now (left .entry)) (now (right .entry))) (now (first .exit)) (now (second .exit)) r ⌝ }
 {
-    let k = natures::both_lists_code(f, left, right);
+    let k = list_codes::both_lists_code(f, left, right);
     if k != 0 {
         return Derived::Refused(k);
     }

@@ -20,7 +20,7 @@ use Rattle.deliveries.proofs.Columns.{Limited, columns-limited, widest-limited}
 use Rattle.orders.specs.Orders.{unaryChecks, pairChecks, boundChecks, copyChecks}
 use Rattle.orders.proofs.Orders.{unary-numbered, pair-numbered, copy-numbered}
 use Rattle.orders.proofs.Passing.{Passing, all-pass, pass-parts, bounds-int}
-use Rattle.natures.specs.Code.{Reached}
+use Rattle.list_natures.specs.Code.{Reached}
 
 -- ---- columns
 

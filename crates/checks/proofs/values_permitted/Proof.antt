@@ -2,7 +2,7 @@
 use borrow.Author.Needs.{needs}
 use Rattle.base.specs.Checks.{valuesPermitted}
 use Rattle.base.proofs.Flags.{last-second}
-use Rattle.checks.proofs.Words.{or-zero}
+use Rattle.array_checks.proofs.Words.{or-zero}
 use Rattle.checks.proofs.values_permitted.Statement.{statement}
 use Rattle.checks.proofs.values_permitted.Tie as tie
 

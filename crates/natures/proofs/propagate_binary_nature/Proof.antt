@@ -10,11 +10,12 @@ use Rattle.base.specs.Components.{familyOf}
 use Rattle.base.specs.Decode.{natureIn}
 use Rattle.base.proofs.Forms.{laid}
 use Rattle.writer.specs.Written.{inWriting}
-use Rattle.natures.specs.Code.{Lists}
+use Rattle.list_codes.specs.Code.{Lists}
 use Rattle.calls.specs.Natures.{listsPair}
 use Rattle.lending.specs.Code.{natureRoom}
 use Rattle.lending.proofs.Lending.{stands, range-room, ends-room, nature-room, wider}
-use Rattle.natures.proofs.Sorted.{number-of, absent-left, absent-right, range-with-lists, lists-with-range, unequal-ranges, both-ranges, both-lists}
+use Rattle.list_codes.proofs.Numbers.{number-of}
+use Rattle.natures.proofs.Sorted.{absent-left, absent-right, range-with-lists, lists-with-range, unequal-ranges, both-ranges, both-lists}
 use Rattle.natures.proofs.propagate_binary_nature.Statement.{statement}
 use Rattle.natures.proofs.propagate_binary_nature.Tie as tie
 

@@ -8,10 +8,11 @@ use Rattle.base.specs.Components.{familyOf}
 use Rattle.base.specs.Decode.{natureIn}
 use Rattle.base.proofs.Forms.{laid}
 use Rattle.writer.specs.Written.{inWriting}
-use Rattle.natures.specs.Code.{Lists, hasRule}
+use Rattle.list_codes.specs.Code.{Lists, hasRule}
 use Rattle.lending.specs.Code.{arraysRoom}
 use Rattle.lending.proofs.Lending.{stands, range-room, ends-room, wider}
-use Rattle.natures.proofs.Sorted.{number-of, alone-absent, alone-range, alone-lists}
+use Rattle.list_codes.proofs.Numbers.{number-of}
+use Rattle.natures.proofs.Sorted.{alone-absent, alone-range, alone-lists}
 use Rattle.natures.proofs.propagate_unary_nature.Statement.{statement}
 use Rattle.natures.proofs.propagate_unary_nature.Tie as tie
 

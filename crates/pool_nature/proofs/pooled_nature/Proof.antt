@@ -11,7 +11,7 @@ use Rattle.base.proofs.Flags.{and-both}
 use Rattle.writer.specs.Written.{inWriting}
 use Rattle.orders.specs.Parts.{isIntCopy}
 use Rattle.lending.specs.Code.{holdsCategories}
-use Rattle.natures.specs.Code.{Lists}
+use Rattle.list_codes.specs.Code.{Lists}
 use Rattle.pool_nature.proofs.Natures.{held-lists, pooled-lists, pooled-apart}
 use Rattle.pool_nature.proofs.pooled_nature.Statement.{statement}
 use Rattle.pool_nature.proofs.pooled_nature.Tie as tie

@@ -17,8 +17,8 @@ use Rattle.category_lists.specs.Categories.{kept}
 use Rattle.calls.specs.Natures.{bothListChecks}
 use Rattle.lending.specs.Code.{joinsLists, joinsTexts, natureRoom}
 use Rattle.lending.proofs.Lending.{stands, pooled, texts-held, texts-joined, used, lists-room, texts-room, nature-room, wider}
-use Rattle.natures.proofs.Sorted.{number-of}
-use Rattle.natures.proofs.Listing.{Joint, joint, no-text, fine-listed, categories, union-fails, union-joins}
+use Rattle.list_codes.proofs.Numbers.{number-of}
+use Rattle.list_codes.proofs.Codes.{Joint, joint, no-text, fine-listed, categories, union-fails, union-joins}
 use Rattle.pool_nature.proofs.Natures.{united-textless, united-texts}
 use Rattle.pool_nature.proofs.united_categorical_nature.Statement.{statement}
 use Rattle.pool_nature.proofs.united_categorical_nature.Tie as tie
