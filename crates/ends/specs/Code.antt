@@ -1,4 +1,4 @@
--- How the code's ranges and answers stand for the values of the definitions.
+-- How the code's ranges, pairs and answers stand for the values of the definitions.
 use mathlib.Core.Option.{Option, none, some}
 use lib.IntN.{ℤ}
 use lib.Ieee as Ieee
@@ -12,6 +12,10 @@ use Rattle.ends.specs.declared.End.{End}
 use Rattle.ends.specs.declared.End.the-variants as E
 use Rattle.ends.specs.declared.Ends.{Ends}
 use Rattle.ends.specs.declared.Ends.the-variants as S
+use Rattle.ends.specs.declared.WholePair.{WholePair}
+use Rattle.ends.specs.declared.WholePair.the-variants as W
+use Rattle.ends.specs.declared.FloatPair.{FloatPair}
+use Rattle.ends.specs.declared.FloatPair.the-variants as F
 
 -- an entry of a whole range, and of a float range
 abbrev pub wholeSpan : Range → Span ℤ
@@ -46,3 +50,12 @@ abbrev pub twoOf : {E : Type 0} → Option E → Option E → Option (E × E)
 twoOf none y = none
 twoOf (some a) none = none
 twoOf (some a) (some b) = some (a, b)
+
+-- the code's pairs: two numbers of which both are present
+abbrev pub wholePair : WholePair → Option (ℤ × ℤ)
+wholePair (W.Both a b) = some (a, b)
+wholePair W.Missing = none
+
+abbrev pub floatPair : FloatPair → Option (Ieee.Float × Ieee.Float)
+floatPair (F.Both a b) = some (a, b)
+floatPair F.Missing = none

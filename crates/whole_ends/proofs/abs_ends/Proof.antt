@@ -15,7 +15,7 @@ returns-2 c =
     let p = c .before .before .before .before .before .before .a .given in
     let a = p .0 .0 in
     let b = p .0 .1 .0 in
-    rw (both-on, ← c .before .before .before .before .before .before .before .before .pair-of .ensures, p .1) (both-answer ofWhole (present (absLower whole a b)) (present (absUpper whole a b))
+    rw (both-on, ← c .before .before .before .before .before .before .before .before .whole-pair .ensures, p .1) (both-answer ofWhole (present (absLower whole a b)) (present (absUpper whole a b))
     (rw (c .before .before .before .before .abs-lower .ensures, reads a (search needs), reads b (search needs)) at (c .before .before .before .end-of .ensures))
     (rw (c .before .before .abs-upper .ensures, reads a (search needs), reads b (search needs)) at (c .before .end-of2 .ensures))
     (c .both .ensures))
@@ -29,7 +29,7 @@ abs-ends-spec =
     (λ c. search needs)
     (λ c. search needs)
     (λ c κs. search needs)
-    (λ c. rw (both-on, ← c .before .before .before .pair-of .ensures, c .before .enum-told .given .1) (c .unknown .ensures))
+    (λ c. rw (both-on, ← c .before .before .before .whole-pair .ensures, c .before .enum-told .given .1) (c .unknown .ensures))
     (λ c κs. search needs)
     (λ c κs. search needs)
     (λ c κs. search needs)
