@@ -28,7 +28,8 @@ use Rattle.texts.specs.Joins.{partOf, asPart, joinCode, partIn, joinIn, joinAt,
 use Rattle.texts.specs.Code.{Texts, Starts, partsOf}
 use Rattle.texts.proofs.Codes.{start-of, length-of, part-fits, part-back, left-of, right-of, join-back, alone}
 use Rattle.texts.proofs.Lying.{read-small, parts-lie}
-use Rattle.text_lists.specs.Codes.{Joining, together, pairCodes, bothCodes, codesBy, columnCodes}
+use Rattle.text_columns.specs.Codes.{pairCodes, bothCodes, codesBy}
+use Rattle.text_lists.specs.Codes.{Joining, together, columnCodes}
 
 -- ---- a sheet's texts
 

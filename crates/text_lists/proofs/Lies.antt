@@ -2,18 +2,19 @@
 --     all-lie        the codes of all columns, one after the other
 --     codes-fit, codes-stand    they fit 64 bits, and what is read where they were written
 -- Assumes nothing.
-use mathlib.Core.Path.{_≡_, refl, sym, subst}
+use mathlib.Core.Path.{_≡_, refl, sym, ap, subst, _∙_}
 use mathlib.Core.Bool.{Bool, true, false}
 use mathlib.Core.Logic.{⊎-elim}
 use mathlib.Core.List.{List, [], _∷_, map, flatten, List·Memᴰ, List·Memᴰ·head, List·Memᴰ·tail, List·Memᴰ·not-nil, List·Memᴰ·append-cases, Memᴰ·of-map}
 use Prim.Native.Nat.{ℕ, zero, suc, _+_, _*_, _^_, _≤_, _<_}
-use native.Mathlib.Nat.{div-add-mod'}
+use native.Mathlib.Nat.{zero-add, div-add-mod'}
 use native.Mathlib.Omega.{arith}
 use lib.IntN.{ℤ, pos}
-use lib.ListN.{length, take, getD}
+use lib.ListN.{length, take, getD, List·getD-map}
 use Rattle.bytes.specs.Le.{leAt}
 use Rattle.utilities.specs.Lists.{listFrom}
 use Rattle.utilities.proofs.Members.{at-member, firsts-only}
+use Rattle.utilities.proofs.Built.{listFrom-at}
 use Rattle.base.specs.Form.{Form, Laid, listCount}
 use Rattle.base.specs.Encode.{wholeBits, listBytes}
 use Rattle.category_lists.specs.Columnwise.{Reaches}
@@ -21,8 +22,9 @@ use Rattle.texts.specs.Joins.{joinCode, PartLies, JoinLies, sameJoin}
 use Rattle.texts.specs.Code.{partsOf}
 use Rattle.texts.proofs.Codes.{join-back}
 use Rattle.texts.proofs.Lying.{empty-lies, lies-alone, lies-join, parts-lie}
-use Rattle.text_lists.specs.Codes.{Joining, pairCodes, bothCodes, codesBy, columnCodes}
-use Rattle.text_lists.proofs.Laying.{code-read}
+use Rattle.text_columns.specs.Codes.{pairCodes, bothCodes, codesBy}
+use Rattle.text_areas.proofs.Laying.{codes-read}
+use Rattle.text_lists.specs.Codes.{Joining, columnCodes}
 
 -- ---- the codes of a column
 
@@ -88,6 +90,15 @@ pub all-lie : {F : Form} {left right : List ℕ} → Laid F → Joining F left r
 all-lie {F} {left} {right} laid u joins n l r = flat-lie (columnCodes joins F left right) n 0 (λ j from to. codes-lie laid u joins j (λ h. omega (arith, l h, to)) (λ h. omega (arith, r h, to)))
 
 -- ---- where they were written
+
+code-read :
+    (s : List ℕ) (t : ℕ) (cs : List ℤ) → 8 * t ≤ length s → take (8 * t) s ≡ listBytes wholeBits cs → ((i : ℕ) → i < t → wholeBits (getD cs i (pos 0)) < 2 ^ 64)
+    → (i : ℕ) → i < t → leAt 8 (8 * i) s ≡ wholeBits (getD cs i (pos 0))
+code-read s t cs h e fits i l =
+    let read = codes-read (λ (c : ℕ). c) s t cs h e fits in
+    ap (λ (k : ℕ). leAt 8 (8 * k) s) (sym (zero-add i)) ∙ sym (listFrom-at (λ i. leAt 8 (8 * i) s) t 0 i 0 l)
+    ∙ ap (λ (ns : List ℕ). getD ns i 0) read
+    ∙ List·getD-map wholeBits cs i (pos 0)
 
 -- t codes, at the start of the second buffer
 module _ {F : Form} {left right : List ℕ} (cs : List ℤ) (lie : CodesLie F left right cs) (t : ℕ) (size : length cs ≡ t) where

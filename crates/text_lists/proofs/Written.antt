@@ -26,7 +26,7 @@ use Rattle.writer.specs.declared.Derived.the-variants as D
 use Rattle.category_lists.specs.Categories.{keptTo, textKept, kept}
 use Rattle.category_lists.specs.Answers.{Tally, Columns}
 use Rattle.category_lists.proofs.Columnwise.{from-end}
-use Rattle.text_lists.specs.Codes.{laidParts, AreaLaid}
+use Rattle.text_areas.specs.Areas.{laidParts, AreaLaid}
 use Rattle.text_lists.proofs.Columns.{from-are}
 
 -- ---- one after the other

@@ -21,7 +21,7 @@ use Rattle.category_lists.specs.Answers.{Stored}
 use Rattle.texts.specs.Joins.{joinOf, joinCode, PartLies, JoinLies}
 use Rattle.texts.proofs.Codes.{join-fits, bits-back}
 use Rattle.texts.proofs.Lying.{lies-join}
-use Rattle.text_lists.specs.Codes.{pairCodes}
+use Rattle.text_columns.specs.Codes.{pairCodes}
 
 -- ---- codes
 

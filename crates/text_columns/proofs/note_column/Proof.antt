@@ -1,7 +1,7 @@
--- `text_lists::note_column` meets its contract. Assumes nothing.
+-- `text_columns::note_column` meets its contract. Assumes nothing.
 use borrow.Author.Needs.{needs}
-use Rattle.text_lists.proofs.note_column.Statement.{statement}
-use Rattle.text_lists.proofs.note_column.Tie as tie
+use Rattle.text_columns.proofs.note_column.Statement.{statement}
+use Rattle.text_columns.proofs.note_column.Tie as tie
 
 returns : tie.Need-returns
 returns c = rw (c .before .before .before .if1 .taken) (c .before .note-pairs .ensures)

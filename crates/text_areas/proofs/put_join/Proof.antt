@@ -1,4 +1,4 @@
--- `text_lists::put_join` meets its contract. Assumes nothing.
+-- `text_areas::put_join` meets its contract. Assumes nothing.
 use mathlib.Core.Path.{_≡_, ap, ap₂, _∙_}
 use mathlib.Core.List.{List, _++_}
 use Prim.Native.Nat.{ℕ, _+_}
@@ -10,9 +10,9 @@ use Rattle.writer.proofs.Copies.{same-size}
 use Rattle.base.specs.Form.{formOf}
 use Rattle.texts.specs.Joins.{partStart, partLength, leftPart, rightPart, joinIn}
 use Rattle.texts.proofs.Bytes.{join-size}
-use Rattle.text_lists.proofs.Sizes.{part-read}
-use Rattle.text_lists.proofs.put_join.Statement.{statement}
-use Rattle.text_lists.proofs.put_join.Tie as tie
+use Rattle.text_areas.proofs.Sizes.{part-read}
+use Rattle.text_areas.proofs.put_join.Statement.{statement}
+use Rattle.text_areas.proofs.put_join.Tie as tie
 
 -- the two parts
 module _ (e : tie.After-right-part) where

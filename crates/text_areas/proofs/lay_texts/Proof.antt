@@ -1,4 +1,4 @@
--- `text_lists::lay_texts` meets its contract. The invariant: i texts are laid, and the joins of the others stand where they stood. Assumes nothing.
+-- `text_areas::lay_texts` meets its contract. The invariant: i texts are laid, and the joins of the others stand where they stood. Assumes nothing.
 use mathlib.Core.Path.{_≡_, refl, sym, ap, subst, _∙_}
 use mathlib.Core.List.{List}
 use Prim.Native.Nat.{ℕ, _+_, _-_, _*_, _^_, _≤_, _<_}
@@ -14,11 +14,11 @@ use Rattle.base.proofs.Forms.{small}
 use Rattle.writer.specs.declared.Derived.the-variants as D
 use Rattle.texts.specs.Joins.{partLength, leftPart, rightPart, joinIn, JoinLies}
 use Rattle.texts.proofs.Bytes.{join-size}
-use Rattle.text_lists.specs.Codes.{laidParts, AreaLaid}
-use Rattle.text_lists.proofs.Sizes.{join-below}
-use Rattle.text_lists.proofs.Laying.{codes-read, textAt, Laying, laying-start, laying-over, laying-more, laying-end, area-over, area-given}
-use Rattle.text_lists.proofs.lay_texts.Statement.{statement}
-use Rattle.text_lists.proofs.lay_texts.Tie as tie
+use Rattle.text_areas.specs.Areas.{laidParts, AreaLaid}
+use Rattle.text_areas.proofs.Sizes.{join-below}
+use Rattle.text_areas.proofs.Laying.{codes-read, textAt, Laying, laying-start, laying-over, laying-more, laying-end, area-over, area-given}
+use Rattle.text_areas.proofs.lay_texts.Statement.{statement}
+use Rattle.text_areas.proofs.lay_texts.Tie as tie
 
 abbrev Inv-loop : tie.InvT-loop
 Inv-loop f left right n t values₀ limit area at₀ i₀ values at i =

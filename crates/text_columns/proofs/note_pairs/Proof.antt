@@ -1,4 +1,4 @@
--- `text_lists::note_pairs` meets its contract. The invariants: the pairs of the first i parts of left are noted; the first m of a row are noted behind
+-- `text_columns::note_pairs` meets its contract. The invariants: the pairs of the first i parts of left are noted; the first m of a row are noted behind
 -- what was. Assumes nothing.
 use mathlib.Core.Path.{_≡_, refl, sym, ap, subst, _∙_}
 use mathlib.Core.List.{List, _++_, map, append-nil}
@@ -17,10 +17,10 @@ use Rattle.base.specs.Encode.{wholeBits}
 use Rattle.category_lists.specs.Answers.{Stored}
 use Rattle.texts.specs.Joins.{joinOf, joinCode, PartLies, JoinLies, sameJoin}
 use Rattle.texts.specs.Code.{Joins}
-use Rattle.text_lists.specs.Codes.{pairCodes}
-use Rattle.text_lists.proofs.Pairs.{row-more, pairs-more, stored-none, stored-more, pair-lies}
-use Rattle.text_lists.proofs.note_pairs.Statement.{statement}
-use Rattle.text_lists.proofs.note_pairs.Tie as tie
+use Rattle.text_columns.specs.Codes.{pairCodes}
+use Rattle.text_columns.proofs.Pairs.{row-more, pairs-more, stored-none, stored-more, pair-lies}
+use Rattle.text_columns.proofs.note_pairs.Statement.{statement}
+use Rattle.text_columns.proofs.note_pairs.Tie as tie
 
 -- the join of left's part a with a part of right, as a store holds it
 abbrev joinWith : ℕ → ℤ → ℤ

@@ -1,13 +1,13 @@
--- `text_lists::put_spot` meets its contract. Assumes nothing.
+-- `text_areas::put_spot` meets its contract. Assumes nothing.
 use mathlib.Core.Path.{refl}
 use Prim.Native.Nat.{_+_}
 use native.Mathlib.Omega.{arith}
 use denote.Ref.{now}
 use borrow.Author.Needs.{needs}
 use Rattle.base.specs.Encode.{spot}
-use Rattle.text_lists.proofs.Laying.{part-over}
-use Rattle.text_lists.proofs.put_spot.Statement.{statement}
-use Rattle.text_lists.proofs.put_spot.Tie as tie
+use Rattle.text_areas.proofs.Laying.{part-over}
+use Rattle.text_areas.proofs.put_spot.Statement.{statement}
+use Rattle.text_areas.proofs.put_spot.Tie as tie
 
 returns : tie.Need-returns
 returns c =

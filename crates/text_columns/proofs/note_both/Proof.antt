@@ -1,4 +1,4 @@
--- `text_lists::note_both` meets its contract. The invariants: the first j parts of left are noted; behind all of them the first m of right. Assumes nothing.
+-- `text_columns::note_both` meets its contract. The invariants: the first j parts of left are noted; behind all of them the first m of right. Assumes nothing.
 use mathlib.Core.Path.{_≡_, refl, sym, ap, subst, _∙_}
 use mathlib.Core.List.{List, [], map, append-nil}
 use Prim.Native.Nat.{ℕ, _+_, _-_, _≤_, _<_}
@@ -17,10 +17,10 @@ use Rattle.category_lists.specs.Answers.{Stored}
 use Rattle.texts.specs.Joins.{joinOf, joinCode, PartLies, JoinLies, sameJoin}
 use Rattle.texts.specs.Code.{Joins}
 use Rattle.texts.proofs.Lying.{lies-alone}
-use Rattle.text_lists.specs.Codes.{bothCodes}
-use Rattle.text_lists.proofs.Pairs.{taken-more, row-more, stored-none, stored-more, pair-lies}
-use Rattle.text_lists.proofs.note_both.Statement.{statement}
-use Rattle.text_lists.proofs.note_both.Tie as tie
+use Rattle.text_columns.specs.Codes.{bothCodes}
+use Rattle.text_columns.proofs.Pairs.{taken-more, row-more, stored-none, stored-more, pair-lies}
+use Rattle.text_columns.proofs.note_both.Statement.{statement}
+use Rattle.text_columns.proofs.note_both.Tie as tie
 
 abbrev Inv-loop : tie.InvT-loop
 Inv-loop f left right us l bs r store₀ k₀ j₀ store k j =

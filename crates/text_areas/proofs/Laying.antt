@@ -1,6 +1,6 @@
 -- Texts that are laid behind their values: the values are written over the joins, one by one, and the bytes behind all of them.
 --     part-over                a part of a buffer that was lent and written: what stands before and behind it stays
---     codes-read, code-read    a list of codes, as they are read of its bytes
+--     codes-read               a list of codes, as they are read of its bytes
 --     Laying, laying-..        i texts are laid, and those that are left
 -- Assumes nothing.
 use mathlib.Core.Path.{_≡_, refl, sym, ap, ap₂, subst, _∙_}
@@ -9,7 +9,7 @@ use Prim.Native.Nat.{ℕ, suc, _+_, _-_, _*_, _^_, _≤_, _<_}
 use native.Mathlib.Nat.{sub-zero, zero-add}
 use native.Mathlib.Omega.{arith}
 use lib.IntN.{ℤ, pos}
-use lib.ListN.{length, take, drop, getD, length-append, length-drop, take-append-drop, List·getD-map}
+use lib.ListN.{length, take, drop, getD, length-append, length-drop, take-append-drop}
 use lib.Seq.{take-all, take-at, take-take, take-append-le, drop-at, drop-drop, take-add, getD-take, getD-drop, length-take-le}
 use borrow.Rule.Slice.PartMut.{putMid}
 use Rattle.bytes.specs.Le.{leAt, leBytes}
@@ -18,13 +18,12 @@ use Rattle.bytes.proofs.Widths.{length-leBytes}
 use Rattle.bytes.proofs.Round.{leAt-cong, number-back}
 use Rattle.bytes.proofs.Appends.{pending-start, pending-more, pending-end}
 use Rattle.utilities.specs.Lists.{listFrom}
-use Rattle.utilities.proofs.Built.{listFrom-at}
 use Rattle.base.specs.Form.{Form}
 use Rattle.base.specs.Decode.{asBits}
 use Rattle.base.specs.Encode.{joined, wholeBits, listBytes, textOf, spot, spotsOf}
 use Rattle.writer.specs.declared.Derived.the-variants as D
 use Rattle.texts.specs.Joins.{joinIn}
-use Rattle.text_lists.specs.Codes.{laidParts, AreaLaid}
+use Rattle.text_areas.specs.Areas.{laidParts, AreaLaid}
 
 -- the n bytes from `at` to `end` are lent, written, and back as ys
 module _ (d : List ℕ) (at end n : ℕ) {vs ys : List ℕ} {r : ℕ} where
@@ -74,15 +73,6 @@ module _ {X : Type 0} (f : ℕ → X) (s : List ℕ) where
       let split : s ≡ [] ++ (listBytes wholeBits cs ++ drop (8 * t) s) = rw (← e) (sym (take-append-drop (8 * t) s)) in
       subst (λ (n : ℕ). listFrom n 0 (λ i. f (leAt 8 (8 * i) s)) ≡ map (λ z. f (wholeBits z)) cs) size
       (codes-from cs [] (drop (8 * t) s) 0 refl split (λ k l. fits k (omega arith)))
-
-pub code-read :
-    (s : List ℕ) (t : ℕ) (cs : List ℤ) → 8 * t ≤ length s → take (8 * t) s ≡ listBytes wholeBits cs → ((i : ℕ) → i < t → wholeBits (getD cs i (pos 0)) < 2 ^ 64)
-    → (i : ℕ) → i < t → leAt 8 (8 * i) s ≡ wholeBits (getD cs i (pos 0))
-code-read s t cs h e fits i l =
-    let read = codes-read (λ (c : ℕ). c) s t cs h e fits in
-    ap (λ (k : ℕ). leAt 8 (8 * k) s) (sym (zero-add i)) ∙ sym (listFrom-at (λ i. leAt 8 (8 * i) s) t 0 i 0 l)
-    ∙ ap (λ (ns : List ℕ). getD ns i 0) read
-    ∙ List·getD-map wholeBits cs i (pos 0)
 
 -- ---- what a write leaves
 
