@@ -36,7 +36,7 @@ use Rattle.calls.specs.Natures.{poolNature}
 use Rattle.calls.specs.Derive.{derivePool}
 use Rattle.deliveries.proofs.Columns.{Limited, widest-limited}
 use Rattle.deliveries.proofs.Answers.{check-refuses, checks-pass, nature-refuses, nature-given, sheet-bytes}
-use Rattle.pooling.specs.Code.{behindRows}
+use Rattle.pool_fields.specs.Code.{behindRows}
 use Rattle.pooling.proofs.Early.{Early, pool-early}
 
 pub pool-columns :

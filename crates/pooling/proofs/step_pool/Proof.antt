@@ -9,7 +9,7 @@ use borrow.Author.Needs.{needs}
 use Rattle.base.specs.Form.{formOf}
 use Rattle.lending.proofs.Lending.{stands}
 use Rattle.deliveries.proofs.Answers.{room, node-fits}
-use Rattle.pooling.specs.Code.{rowsIn}
+use Rattle.pool_fields.specs.Code.{rowsIn}
 use Rattle.pooling.proofs.Pooled.{pool-columns, pool-refused, rows-refused, pool-nature-refused, pool-written}
 use Rattle.pooling.proofs.step_pool.Statement.{statement}
 use Rattle.pooling.proofs.step_pool.Tie as tie

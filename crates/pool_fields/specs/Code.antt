@@ -8,8 +8,8 @@ use Rattle.numbers.specs.Result.{Result, ok, refused}
 use Rattle.base.specs.Code.{signedOf}
 use Rattle.writer.specs.declared.Derived.{Derived}
 use Rattle.writer.specs.declared.Derived.the-variants as D
-use Rattle.pooling.specs.declared.Rows.{Rows}
-use Rattle.pooling.specs.declared.Rows.the-variants as R
+use Rattle.pool_fields.specs.declared.Rows.{Rows}
+use Rattle.pool_fields.specs.declared.Rows.the-variants as R
 
 -- the rows' sum, or 24
 abbrev pub rowsIn : Rows → Result (Option ℤ)

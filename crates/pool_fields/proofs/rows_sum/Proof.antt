@@ -1,9 +1,9 @@
--- `pooling::rows_sum` meets its contract. Assumes nothing.
+-- `pool_fields::rows_sum` meets its contract. Assumes nothing.
 use borrow.Author.Needs.{needs}
 use Rattle.numbers.proofs.Bits.{reads}
 use Rattle.shape.specs.Shape.{rowsSum}
-use Rattle.pooling.proofs.rows_sum.Statement.{statement}
-use Rattle.pooling.proofs.rows_sum.Tie as tie
+use Rattle.pool_fields.proofs.rows_sum.Statement.{statement}
+use Rattle.pool_fields.proofs.rows_sum.Tie as tie
 
 returns : tie.Need-returns
 unfolding rowsSum

@@ -1,7 +1,7 @@
--- `pooling::behind_rows` meets its contract. Assumes nothing.
+-- `pool_fields::behind_rows` meets its contract. Assumes nothing.
 use borrow.Author.Needs.{needs}
-use Rattle.pooling.proofs.behind_rows.Statement.{statement}
-use Rattle.pooling.proofs.behind_rows.Tie as tie
+use Rattle.pool_fields.proofs.behind_rows.Statement.{statement}
+use Rattle.pool_fields.proofs.behind_rows.Tie as tie
 
 returns : tie.Need-returns
 returns c = let d = c .before .before .derived .given in rw (d .1, c .if1 .taken)

@@ -1,8 +1,8 @@
--- `pooling::pool_head` meets its contract. Assumes nothing.
+-- `pool_fields::pool_head` meets its contract. Assumes nothing.
 use borrow.Author.Needs.{needs}
 use Rattle.shape.specs.Fields.{poolFields}
-use Rattle.pooling.proofs.pool_head.Statement.{statement}
-use Rattle.pooling.proofs.pool_head.Tie as tie
+use Rattle.pool_fields.proofs.pool_head.Statement.{statement}
+use Rattle.pool_fields.proofs.pool_head.Tie as tie
 
 returns : tie.Need-returns
 unfolding poolFields
