@@ -16,7 +16,6 @@ use base::refusals::ROWS;
 use base::refusals::SAMPLED;
 use base::refusals::STABILITIES;
 use base::refusals::TYPES;
-use shape::bounds;
 use shape::groups;
 ghost use mathlib.Core.Path.{_≡_};
 ghost use mathlib.Core.Bool.{false, not, _&&_};

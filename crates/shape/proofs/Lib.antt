@@ -1,5 +1,3 @@
 -- What the proofs of several functions, and of the crates above, cite.
-pub mod Asks
-pub mod Zeros
 pub mod Grouped
 pub mod Values

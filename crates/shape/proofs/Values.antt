@@ -1,17 +1,15 @@
--- Laws of single values: equal signed numbers, floats against the literals, the greater of two that may be absent. Assumes nothing.
+-- Laws of single values: equal signed numbers, a float against the literal 1, the greater of two that may be absent. Assumes nothing.
 use mathlib.Core.Path.{_≡_, refl, sym, ap, _∙_}
-use mathlib.Core.Bool.{Bool, true, false, cond, not, _&&_, _||_}
+use mathlib.Core.Bool.{Bool, true, false, cond, not, _&&_}
 use mathlib.Core.Option.{Option, none, some}
 use lib.IntN.{ℤ}
-use lib.Dec.{T, eqb}
+use lib.Dec.{eqb}
 use lib.Ieee as Ieee
 use lib.Ieee.{Float, binary64, ofBits}
-use lib.Ieee.Compare.{nan-differs}
 use mir.Syntax.{w64}
 use mir.Val.{toZ, ofZ}
 use borrow.Author.Tests.{eqb-true, eqb-false}
-use Rattle.bytes.proofs.Patterns.{unequal-nan, equal-no-nan}
-use Rattle.numbers.specs.Kind.{eqZ, zeroFloat, oneFloat}
+use Rattle.numbers.specs.Kind.{eqZ, oneFloat}
 use Rattle.numbers.proofs.Choices.{eqZ-yes, eqZ-no}
 use Rattle.base.specs.Bounds.{isPresent}
 use Rattle.shape.specs.Shape.{greaterOption, greaterPresent}
@@ -27,19 +25,6 @@ same-bits a b f g = go (eqb (ofZ w64 a) (ofZ w64 b)) refl
 pub differs-from-one : (x : Float) → Ieee.ne x (ofBits binary64 0x3ff0_0000_0000_0000) ≡ not (Ieee.eq x oneFloat)
 unfolding Ieee.ne ofBits
 differs-from-one x = refl
-
--- only a NaN differs from itself
-pub nan-or-zero : (x : Float) → (Ieee.ne x x || Ieee.eq x (ofBits binary64 0)) ≡ (Ieee.isNan x || Ieee.eq x zeroFloat)
-unfolding ofBits Ieee.isNan
-nan-or-zero x = ap (λ (t : Bool). t || Ieee.eq x zeroFloat) (go (Ieee.ne x x) refl)
-  where
-    go : (t : Bool) → Ieee.ne x x ≡ t → Ieee.ne x x ≡ Ieee.isNan x
-    go true e = ap (λ (y : Float). Ieee.ne y y) (unequal-nan x e) ∙ nan-differs ∙ sym (ap Ieee.isNan (unequal-nan x e))
-    go false e = e ∙ sym (no (Ieee.isNan x) (equal-no-nan x e))
-      where
-        no : (t : Bool) → T (not t) → t ≡ false
-        no true h = absurd h
-        no false h = refl
 
 pub greater-present-is : (x y : Option ℤ) → greaterPresent x y ≡ cond (isPresent x && isPresent y) (greaterOption x y) none
 greater-present-is none y = refl

@@ -1,5 +1,4 @@
-// Columns, rows and fields of two operands: `propagate_binary_shape`, and the fields that a component derives. Beside them what the checks 6 to 16 ask of
-// groups and ends.
+// Columns, rows and fields of two operands: `propagate_binary_shape`, and the fields that a component derives; beside them the groups.
 use base::Head;
 use base::OptionI64;
 use base::OptionU64;
@@ -11,9 +10,7 @@ ghost use Rattle.base.specs.Code.{signedOf, headFields};
 ghost use Rattle.shape.specs.Shape.{sameOption, greaterOption, greaterPresent, rowSpreads, rowsAgree, rowsOf, columnsOf, columnsAbsent, columnsClash, columnsUnequal, widest, sameDataset, rowsClash};
 ghost use Rattle.shape.specs.Fields.{pairFields, copyFields};
 
-pub mod bounds; // what the ends of a range are asked
 pub mod groups;
-pub mod zero; // the nullity that Divide adds
 
 // ---- values that may be absent
 

@@ -109,7 +109,7 @@ pub fn step_pair(
     let Derived::Nature(p) = derived else {
         return writer::refusal(derived);
     };
-    let more = shape::zero::adds_nullity(f, c, right);
+    let more = bounds::zero::adds_nullity(f, c, right);
     let h = shape::pair_head(more, l, r);
     Put::At(writer::put_pair(
         f,
