@@ -1,3 +1,3 @@
--- What the proofs of several functions cite.
+-- What the proof of `step_pool` cites.
 pub mod Early
 pub mod Pooled

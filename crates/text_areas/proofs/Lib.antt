@@ -1,3 +1,3 @@
--- What the proofs of several functions cite.
+-- What the proofs of several functions, and of the crate above, cite.
 pub mod Sizes
 pub mod Laying
