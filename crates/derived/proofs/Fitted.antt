@@ -180,7 +180,9 @@ module _ {E : Type 0} (K : Kind E) (P : E → Type 0) where
         (λ a c p q. both-fits (present (absLower K a c)) (present (absUpper K a c)) (present-fits (absLower K a c) (abs-lower a c p q)) (present-fits (absUpper K a c) (abs-upper a c p q)))
         (p .lower) (p .upper)
     rule-fits C.Add x y p q = ends-fit (K .add) (K .add) (λ a b p q. fit .add a b) (λ a b p q. fit .add a b) x y p q
-    rule-fits C.Subtract x y p q = ends-fit (K .sub) (K .sub) (λ a b p q. fit .sub a b) (λ a b p q. fit .sub a b) x y p q
+    rule-fits C.Subtract x y p q =
+        both-fits (fromTwo (K .sub) (x .lower) (y .upper)) (fromTwo (K .sub) (x .upper) (y .lower))
+        (two-fits (K .sub) (λ a b p q. fit .sub a b) (x .lower) (y .upper) (p .lower) (q .upper)) (two-fits (K .sub) (λ a b p q. fit .sub a b) (x .upper) (y .lower) (p .upper) (q .lower))
     rule-fits C.Multiply x y p q =
         from-both-fits (x .lower) (x .upper) _
         (λ a c g h. from-both-fits (y .lower) (y .upper) _

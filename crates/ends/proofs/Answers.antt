@@ -4,7 +4,7 @@ use mathlib.Core.Option.{Option, some}
 use Rattle.numbers.specs.Result.{Result, ok, refused}
 use Rattle.numbers.specs.Kind.{Kind, Span, lesser, greater}
 use Rattle.base.specs.declared.Bound.{Bound}
-use Rattle.ends.specs.Ends.{fromTwo, fromOne, both, negEnds, modEnds, poolEnds}
+use Rattle.ends.specs.Ends.{fromTwo, fromOne, both, addEnds, subEnds, negEnds, modEnds, poolEnds}
 use Rattle.ends.specs.Code.{endOf, endsOf, bothEnds}
 use Rattle.ends.specs.declared.End.{End}
 use Rattle.ends.specs.declared.Ends.{Ends}
@@ -19,13 +19,19 @@ module _ {E : Type 0} (bound : Option E → Bound) where
       go (ok x) (refused k) = refl
       go (refused k) q = refl
 
-  -- Add and Subtract
-  pub two-ends : (op : E → E → Result E) (x y : Span E) {l u : End} {r : Ends}
-      → l ≡ endOf bound (fromTwo op (x .lower) (y .lower)) → u ≡ endOf bound (fromTwo op (x .upper) (y .upper)) → r ≡ bothEnds l u
-      → r ≡ endsOf bound (both (fromTwo op (x .lower) (y .lower)) (fromTwo op (x .upper) (y .upper)))
-  two-ends op x y = both-answer (fromTwo op (x .lower) (y .lower)) (fromTwo op (x .upper) (y .upper))
-
   module _ (K : Kind E) where
+    pub add-ends : (x y : Span E) {l u : End} {r : Ends}
+        → l ≡ endOf bound (fromTwo (K .add) (x .lower) (y .lower)) → u ≡ endOf bound (fromTwo (K .add) (x .upper) (y .upper)) → r ≡ bothEnds l u
+        → r ≡ endsOf bound (addEnds K x y)
+    unfolding addEnds
+    add-ends x y = both-answer (fromTwo (K .add) (x .lower) (y .lower)) (fromTwo (K .add) (x .upper) (y .upper))
+
+    pub sub-ends : (x y : Span E) {l u : End} {r : Ends}
+        → l ≡ endOf bound (fromTwo (K .sub) (x .lower) (y .upper)) → u ≡ endOf bound (fromTwo (K .sub) (x .upper) (y .lower)) → r ≡ bothEnds l u
+        → r ≡ endsOf bound (subEnds K x y)
+    unfolding subEnds
+    sub-ends x y = both-answer (fromTwo (K .sub) (x .lower) (y .upper)) (fromTwo (K .sub) (x .upper) (y .lower))
+
     pub neg-ends : (x : Span E) {l u : End} {r : Ends}
         → l ≡ endOf bound (fromOne (K .neg) (x .upper)) → u ≡ endOf bound (fromOne (K .neg) (x .lower)) → r ≡ bothEnds l u
         → r ≡ endsOf bound (negEnds K x)

@@ -1,4 +1,4 @@
--- 01, "Range ends", and 02, S-1: the end rules of the ten components, written once over the element kind. Operands are [a, c] on the left and [d, f] on the right.
+-- 01, "Range ends", and 02, S-1 and S-4: the end rules of the ten components, written once over the element kind. Operands are [a, c] on the left and [d, f] on the right.
 use mathlib.Core.Bool.{cond, not, _&&_, _||_}
 use mathlib.Core.Option.{Option, none, some}
 use Rattle.numbers.specs.Result.{Result, ok, refused, andThen}
@@ -39,9 +39,9 @@ module _ {E : Type 0} (K : Kind E) where
   unfoldable pub addEnds : Span E → Span E → Result (Span E)
   addEnds x y = both (fromTwo (K .add) (x .lower) (y .lower)) (fromTwo (K .add) (x .upper) (y .upper))
 
-  -- 01: "Subtract takes lower − lower and upper − upper, as in the Rust"
+  -- 02, S-4: "The new lower is left lower − right upper, the new upper is left upper − right lower, each absent if one of its two is"
   unfoldable pub subEnds : Span E → Span E → Result (Span E)
-  subEnds x y = both (fromTwo (K .sub) (x .lower) (y .lower)) (fromTwo (K .sub) (x .upper) (y .upper))
+  subEnds x y = both (fromTwo (K .sub) (x .lower) (y .upper)) (fromTwo (K .sub) (x .upper) (y .lower))
 
   -- 01: "Negative gives −upper, −lower"
   unfoldable pub negEnds : Span E → Result (Span E)

@@ -91,8 +91,8 @@ pub fn float_end_rule(c: Component, x: Range, y: Range) -> Ends
             upper: add_end(left_upper, right_upper),
         }),
         Component::Subtract => Ends::Are(Range {
-            lower: sub_end(left_lower, right_lower),
-            upper: sub_end(left_upper, right_upper),
+            lower: sub_end(left_lower, right_upper),
+            upper: sub_end(left_upper, right_lower),
         }),
         Component::Multiply => float_corners::mul_ends(x, y),
         Component::Divide => float_corners::div_ends(x, y),

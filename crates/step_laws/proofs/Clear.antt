@@ -165,7 +165,7 @@ module _ {E : Type 0} {K : Kind E} (k : ClearKind K) where
   unfolding endRule addEnds subEnds divEnds modEnds negEnds poolEnds
   rule-clear C.Abs x y = abs-clear x
   rule-clear C.Add x y = both-clear (two-clear (K .add) (k .add) (x .lower) (y .lower)) (two-clear (K .add) (k .add) (x .upper) (y .upper))
-  rule-clear C.Subtract x y = both-clear (two-clear (K .sub) (k .sub) (x .lower) (y .lower)) (two-clear (K .sub) (k .sub) (x .upper) (y .upper))
+  rule-clear C.Subtract x y = both-clear (two-clear (K .sub) (k .sub) (x .lower) (y .upper)) (two-clear (K .sub) (k .sub) (x .upper) (y .lower))
   rule-clear C.Multiply x y = mul-clear x y
   rule-clear C.Divide x y = ends-clear _ (λ a c. by-clear a c (y .lower) (y .upper)) (x .lower) (x .upper)
   rule-clear C.Modulo x y = both-clear value (one-clear (K .last) (k .last) (y .upper))

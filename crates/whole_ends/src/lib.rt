@@ -150,8 +150,8 @@ pub fn whole_end_rule(c: Component, x: Range, y: Range) -> Ends
             add_end(left_upper, right_upper),
         ),
         Component::Subtract => ends::both(
-            sub_end(left_lower, right_lower),
-            sub_end(left_upper, right_upper),
+            sub_end(left_lower, right_upper),
+            sub_end(left_upper, right_lower),
         ),
         Component::Multiply => whole_corners::mul_ends(x, y),
         Component::Divide => whole_corners::div_ends(x, y),
