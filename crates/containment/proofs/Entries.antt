@@ -24,7 +24,7 @@ use Rattle.containment.specs.Demand.{AtLeast, AtMost, InSpan, SpanOffZer
 use Rattle.containment.specs.Asks.{Defined, Asks, LowerAboveZero, LowerNotNegative}
 use Rattle.containment.proofs.Order.{≤-trans, lt-one, lt-minus}
 use Rattle.containment.proofs.Answers.{nothing}
-use Rattle.containment.proofs.Spans.{add-keeps, neg-keeps, abs-keeps, mul-keeps, div-keeps, mod-keeps, pool-keeps}
+use Rattle.containment.proofs.Spans.{add-keeps, sub-keeps, neg-keeps, abs-keeps, mul-keeps, div-keeps, mod-keeps, pool-keeps}
 
 -- ---- the result exists
 
@@ -112,7 +112,7 @@ module _ (side : Side) (x y z : Span ℤ) (a b v : ℤ) where
   unfolding endRule exact
   entry-keeps C.Abs k e p q w = keeps-same z w (abs-keeps a x z e p)
   entry-keeps C.Add k e p q w = keeps-same z w (add-keeps a b x y z e p q)
-  entry-keeps C.Subtract k e p q w = absurd k
+  entry-keeps C.Subtract k e p q w = keeps-same z w (sub-keeps a b x y z e p q)
   entry-keeps C.Multiply k e p q w = keeps-same z w (mul-keeps a b x y z e p q)
   entry-keeps C.Divide k e p q w = keeps-same z (unless-inv b (quotZ a b) w) (div-keeps a b x y z k e p q)
   entry-keeps C.Modulo k e p q w = keeps-same z (unless-inv b (remainder a b) w) (mod-keeps a b x y z k e q)

@@ -33,7 +33,7 @@ use Rattle.containment.proofs.Lists.{each-found, product-found, paired-
 pub admitted-asks : (c : Component) (xs ys : List (Span ℤ)) (j : ℕ) → Admitted c (wholeRange xs) (wholeRange ys) j → Asks c (entryFor ys j)
 admitted-asks C.Abs xs ys j k = tt
 admitted-asks C.Add xs ys j k = tt
-admitted-asks C.Subtract xs ys j k = k tt tt
+admitted-asks C.Subtract xs ys j k = tt
 admitted-asks C.Multiply xs ys j k = tt
 admitted-asks C.Divide xs ys j k = k
 admitted-asks C.Modulo xs ys j k = k

@@ -2,7 +2,7 @@
 use mathlib.Core.Path.{_≡_, refl}
 use mathlib.Core.Bool.{Bool, true, false, cond}
 use native.Mathlib.Omega.{arith}
-use lib.IntN.{ℤ, pos, negsuc, negℤ, _+ℤ_}
+use lib.IntN.{ℤ, pos, negsuc, negℤ, _+ℤ_, _-ℤ_}
 use lib.Dec.{T}
 use lib.Signed.{ltZ, _≤ℤ_, _<ℤ_}
 use Rattle.numbers.proofs.Parts.{add-is, neg-is, le-parts, parts-le, lt-true}
@@ -27,6 +27,9 @@ neg-mono {a} {b} h =
     let q = neg-is a in
     let r = neg-is b in
     parts-le (negℤ b) (negℤ a) (omega arith)
+
+pub sub-mono : {a b c d : ℤ} → a ≤ℤ b → c ≤ℤ d → (a -ℤ d) ≤ℤ (b -ℤ c)
+sub-mono h k = add-mono h (neg-mono k)
 
 -- a choice by a test
 pub choose : {x y : ℤ} (t : Bool) (P : ℤ → Type 0) → (t ≡ true → P x) → (t ≡ false → P y) → P (cond t x y)

@@ -6,27 +6,29 @@
 --     every-row    so the claim holds of every row inside, by `contained`,
 --     claimed      and of these
 --     results      every exact result of both rows, which differ at the Pool steps alone and at what is made of them
---     reached      column 0 of node 12: the result is 7, and so is the upper end that its sheet states
+--     reached      of node 12 (Abs) column 0 has the result 7, and so has the upper end that its sheet states; of node 16 (Subtract of two ranges) both
+--                  columns have 1, which is column 0's upper end and column 1's lower end
 -- By computation, but for `contained`. Assumes nothing.
 use mathlib.Core.Path.{_≡_, refl, sym, ap, subst}
 use mathlib.Core.Bool.{Bool, true, false}
 use mathlib.Core.List.{List, [], _∷_, List·Memᴰ·head, List·Memᴰ·tail}
 use mathlib.Core.Logic.{inl, inr}
-use mathlib.Core.Option.{none, some}
+use mathlib.Core.Option.{Option, none, some}
 use Prim.Native.Nat.{ℕ, zero, suc, _+_, _≤_, _<_, zero-le}
 use native.Mathlib.Nat.{eq-or-lt-of-le}
 use native.Mathlib.Omega.{arith}
 use lib.Dec.{ltb}
-use lib.IntN.{pos, pow, one}
+use lib.IntN.{ℤ, pos, pow, one}
 use lib.ListN.{length, getD, List·getD-eq-default}
 use borrow.Author.Tests.{ltb-true, ltb-false}
 use Rattle.utilities.specs.Lists.{listFrom, every}
 use Rattle.utilities.proofs.Built.{every-at}
 use Rattle.base.specs.Form.{narrow}
-use Rattle.base.specs.Sheet.{Sheet, wholeRange}
+use Rattle.base.specs.Sheet.{Sheet, Nature, wholeRange}
 use Rattle.base.specs.Components.{componentOf}
 use Rattle.shape.specs.Shape.{columnsOf}
 use Rattle.step_laws.specs.Computing.{computing}
+use Rattle.step_laws.specs.Examples.{slotsOf}
 use Rattle.step_laws.specs.Shelf.{minus}
 use Rattle.calls.specs.Single.{Outcome, outcome}
 use Rattle.round_trip.specs.WellFormed.{Each}
@@ -35,7 +37,7 @@ use Rattle.plan_form.specs.Form.{nodeCount, leafCount, stepCount, componentNumb
 use Rattle.calls.specs.Walk.{plan, walk, stepOn, sheetIn, leavesThen, leafNodes, stepNodes}
 use Rattle.containment.specs.Exact.{Side, Row, Results, exact, resultsOf, resultAt}
 use Rattle.containment.specs.Demand.{entryFor, Keeps, StatesColumns, WholeNature, ColumnsMatch, OffZero, Suits, Premises, Inside, Claim, sheetOf}
-use Rattle.containment.specs.Shown.{shownPlan, shownLeaves, shownSteps, between, slotsOf, shownWork, shownAfter, shownSheet, shownNumbers, rowTaking, shownRow, oppositeRow, commonResults, shownResults, oppositeResults}
+use Rattle.containment.specs.Shown.{shownPlan, shownLeaves, shownSteps, between, shownWork, shownAfter, shownSheet, shownNumbers, rowTaking, shownRow, oppositeRow, commonResults, shownResults, oppositeResults}
 use Rattle.containment.proofs.Contained.{contained}
 
 -- ---- the call
@@ -112,17 +114,18 @@ leaf-natures = (inl refl, (inl refl, (inr refl, (inl refl, (inl refl, tt)))))
 
 operand-columns : Each OperandColumns (stepNodes narrow shownPlan)
 unfolding reading
-operand-columns = (inr (inr refl), (inl refl, (inr (inr refl), (inl refl, (inl refl, (inr (inr refl), (inl refl, (inl refl, (inl refl, (inl refl, (inl refl, tt)))))))))))
+operand-columns =
+    (inr (inr refl), (inl refl, (inr (inr refl), (inl refl, (inl refl, (inr (inr refl), (inl refl, (inl refl, (inl refl, (inl refl, (inl refl, (inl refl, tt))))))))))))
 
 -- Divide's divisor has its lower above 0 in the first column, its upper below 0 in the second
 off-zero : (j : ℕ) → j < 2 → OffZero (sheet 2 .nature) j
 unfolding reading entryFor
 off-zero = both (OffZero (sheet 2 .nature)) (inl (pos 2, refl, record { lt = tt })) (inr (minus 3, refl, record { lt = tt }))
 
--- Divide is the second step; Subtract, the fifth, joins categories; Power, the sixth, has Int operands
+-- Divide is the second step; Power, the sixth, has Int operands
 components-suit : Each ComponentSuits (stepNodes narrow shownPlan)
 unfolding reading
-components-suit = (tt, (off-zero, (tt, (tt, ((λ l r. l), ((refl, refl), (tt, (tt, (tt, (tt, (tt, tt)))))))))))
+components-suit = (tt, (off-zero, (tt, (tt, (tt, ((refl, refl), (tt, (tt, (tt, (tt, (tt, (tt, tt))))))))))))
 
 sheets-meet : Premises shownPlan sheet
 unfolding reading
@@ -164,9 +167,16 @@ sheet-results : (resultsOn sheet shownRow ≡ shownResults) × (resultsOn sheet 
 unfolding resultsOf exact pow one shownNumbers rowTaking commonResults shownResults oppositeResults reading
 sheet-results = (refl, refl)
 
-stated : sheet 12 .nature ≡ wholeRange (between (minus 5) (pos 7) ∷ between (minus 5) (pos 5) ∷ [])
+-- the ranges of nodes 12 and 16
+abbrev absRange : Nature
+absRange = wholeRange (between (minus 5) (pos 7) ∷ between (minus 5) (pos 5) ∷ [])
+
+abbrev differenceRange : Nature
+differenceRange = wholeRange (between (minus 5) (pos 1) ∷ between (pos 1) (pos 7) ∷ [])
+
+stated : (sheet 12 .nature ≡ absRange) × (sheet 16 .nature ≡ differenceRange)
 unfolding reading
-stated = refl
+stated = (refl, refl)
 
 -- ---- demand 3
 
@@ -190,11 +200,18 @@ claimed x y = every-row (rowTaking x y) (inside x y)
 pub results : (resultsOn shownSheet shownRow ≡ shownResults) × (resultsOn shownSheet oppositeRow ≡ oppositeResults)
 results = after-call (λ s. (resultsOn s shownRow ≡ shownResults) × (resultsOn s oppositeRow ≡ oppositeResults)) sheet-results
 
-result-is : resultAt shownPlan shownSheet shownRow 12 0 ≡ some (pos 7)
+-- by node and column
+abbrev result : ℕ → ℕ → Option ℤ
+result k j = resultAt shownPlan shownSheet shownRow k j
+
+results-are : (result 12 0 ≡ some (pos 7)) × (result 16 0 ≡ some (pos 1)) × (result 16 1 ≡ some (pos 1))
 unfolding commonResults shownResults
-result-is = ap (λ (rs : List Results). getD (getD rs 12 []) 0 none) (results .0)
+results-are = (at 12 0, at 16 0, at 16 1)
+  where
+    at : (k j : ℕ) → result k j ≡ getD (getD shownResults k []) j none
+    at k j = ap (λ (rs : List Results). getD (getD rs k []) j none) (results .0)
 
 pub reached :
-    (resultAt shownPlan shownSheet shownRow 12 0 ≡ some (pos 7))
-    × (shownSheet 12 .nature ≡ wholeRange (between (minus 5) (pos 7) ∷ between (minus 5) (pos 5) ∷ []))
-reached = (result-is, after-call (λ s. s 12 .nature ≡ wholeRange (between (minus 5) (pos 7) ∷ between (minus 5) (pos 5) ∷ [])) stated)
+    ((result 12 0 ≡ some (pos 7)) × (result 16 0 ≡ some (pos 1)) × (result 16 1 ≡ some (pos 1)))
+    × ((shownSheet 12 .nature ≡ absRange) × (shownSheet 16 .nature ≡ differenceRange))
+reached = (results-are, after-call (λ s. (s 12 .nature ≡ absRange) × (s 16 .nature ≡ differenceRange)) stated)

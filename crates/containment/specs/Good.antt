@@ -12,7 +12,7 @@ use Rattle.base.specs.declared.Component.the-variants as C
 use Rattle.base.specs.declared.Numbered.the-variants as N
 use Rattle.shape.specs.Shape.{columnsOf}
 use Rattle.containment.specs.Exact.{Side, Results, columnOf, exactOf}
-use Rattle.containment.specs.Demand.{entryFor, Keeps, OneOrPerColumn, IsRange, OffZero}
+use Rattle.containment.specs.Demand.{entryFor, Keeps, OneOrPerColumn, OffZero}
 use Rattle.containment.specs.Asks.{LowerAboveZero, LowerNotNegative}
 
 -- absent, or whole with one entry or one per column
@@ -49,7 +49,7 @@ OfRange P (textLists ls) j = ⊥
 abbrev pub Admitted : Component → Nature → Nature → ℕ → Type 0
 Admitted C.Abs l r j = Unit {0}
 Admitted C.Add l r j = Unit {0}
-Admitted C.Subtract l r j = IsRange l → IsRange r → ⊥
+Admitted C.Subtract l r j = Unit {0}
 Admitted C.Multiply l r j = Unit {0}
 Admitted C.Divide l r j = OffZero r j
 Admitted C.Modulo l r j = OfRange LowerAboveZero r j

@@ -3,14 +3,14 @@
 use mathlib.Core.Bool.{Bool, true, false, cond}
 use mathlib.Core.List.{List, [], _∷_, _++_}
 use mathlib.Core.Option.{Option, none, some}
-use Prim.Native.Nat.{ℕ, _-_, _*_}
+use Prim.Native.Nat.{ℕ, _*_}
 use lib.IntN.{ℤ, pos}
 use lib.Dec.{eqb}
 use lib.ListN.{length, replicate, getD}
 use Rattle.numbers.specs.Kind.{Span}
 use Rattle.base.specs.Form.{narrow, longest, intType}
 use Rattle.base.specs.Sheet.{Nature, wholeRange, wholeLists, Sheet}
-use Rattle.base.specs.Encode.{encode, joined}
+use Rattle.step_laws.specs.Examples.{filler, slotsOf}
 use Rattle.step_laws.specs.Shelf.{minus}
 use Rattle.calls.specs.Walk.{plan}
 use Rattle.containment.specs.Exact.{Side, fromLeft, fromRight, Row, Results}
@@ -20,7 +20,7 @@ use Rattle.containment.specs.Demand.{sheetOf}
 
 unfoldable pub shownPlan : List ℕ
 shownPlan =
-    16 ∷ 0  -- N, the nodes
+    17 ∷ 0  -- N, the nodes
     ∷ 5 ∷ 0  -- K, the leaves
     ∷ 4 ∷ 0 ∷ 0 ∷ 0  -- node 5: Multiply
     ∷ 5 ∷ 0 ∷ 0 ∷ 0  -- node 6: Divide
@@ -33,6 +33,7 @@ shownPlan =
     ∷ 10 ∷ 0 ∷ 0 ∷ 0  -- node 13: Pool
     ∷ 4 ∷ 0 ∷ 0 ∷ 0  -- node 14: Multiply
     ∷ 10 ∷ 0 ∷ 0 ∷ 0  -- node 15: Pool
+    ∷ 3 ∷ 0 ∷ 0 ∷ 0  -- node 16: Subtract
     ∷ 0 ∷ 0 ∷ 1 ∷ 0  -- node 5: left 0, right 1
     ∷ 5 ∷ 0 ∷ 2 ∷ 0  -- node 6: left 5, right 2
     ∷ 6 ∷ 0 ∷ 1 ∷ 0  -- node 7: left 6, right 1
@@ -44,6 +45,7 @@ shownPlan =
     ∷ 0 ∷ 0 ∷ 2 ∷ 0  -- node 13: left 0, right 2
     ∷ 13 ∷ 0 ∷ 13 ∷ 0  -- node 14: left 13, right 13
     ∷ 3 ∷ 0 ∷ 4 ∷ 0  -- node 15: left 3, right 4
+    ∷ 0 ∷ 0 ∷ 2 ∷ 0  -- node 16: left 0, right 2
     ∷ []
 
 -- ---- its sheets
@@ -98,7 +100,7 @@ derived node columns k = sheetWith 100 (some (pos 7)) (pos node) true columns k
 abbrev pub pooled : ℕ → Bool → ℕ → Nature → Sheet
 pooled node ordered columns k = sheetWith 200 none (pos node) ordered columns k
 
--- nodes 5 to 15, as the call is to leave them
+-- nodes 5 to 16, as the call is to leave them
 unfoldable pub shownSteps : List Sheet
 shownSteps =
     derived 5 2 (wholeRange (between (minus 10) (pos 15) ∷ between (minus 10) (pos 15) ∷ []))
@@ -112,19 +114,10 @@ shownSteps =
     ∷ pooled 13 false 2 (wholeRange (between (minus 2) (pos 3) ∷ between (minus 4) (pos 3) ∷ []))
     ∷ pooled 14 true 2 (wholeRange (between (minus 6) (pos 9) ∷ between (minus 12) (pos 16) ∷ []))
     ∷ pooled 15 false 1 (wholeLists ((pos 1 ∷ pos 2 ∷ pos 10 ∷ pos 11 ∷ []) ∷ []))
+    ∷ derived 16 2 (wholeRange (between (minus 5) (pos 1) ∷ between (pos 1) (pos 7) ∷ []))
     ∷ []
 
 -- ---- the work buffer
-
--- what stands behind a sheet, and in a slot that no step has written
-abbrev pub filler : ℕ
-filler = 165
-
-abbrev pub slotWith : List ℕ → List ℕ
-slotWith bytes = bytes ++ replicate (longest narrow - length bytes) filler
-
-unfoldable pub slotsOf : List Sheet → List ℕ
-slotsOf sheets = joined (λ s. slotWith (encode narrow s)) sheets
 
 unfoldable pub shownWork : List ℕ
 shownWork = slotsOf shownLeaves ++ replicate (length shownSteps * longest narrow) filler
@@ -175,6 +168,10 @@ commonResults =
     ∷ (some (pos 7) ∷ some (pos 3) ∷ [])
     ∷ []
 
+-- of node 16, the difference of two ranges, on both rows too
+abbrev pub difference : Results
+difference = some (pos 1) ∷ some (pos 1) ∷ []
+
 -- .. and of all: node 13 takes both columns of node 0, and node 15 takes node 4
 unfoldable pub shownResults : List Results
 shownResults =
@@ -182,6 +179,7 @@ shownResults =
     ++ ((some (pos 3) ∷ some (minus 2) ∷ [])
     ∷ (some (pos 9) ∷ some (pos 4) ∷ [])
     ∷ (some (pos 11) ∷ [])
+    ∷ difference
     ∷ [])
 
 -- .. node 13 takes both columns of node 2, and node 15 takes node 3
@@ -191,4 +189,5 @@ oppositeResults =
     ++ ((some (pos 2) ∷ some (minus 3) ∷ [])
     ∷ (some (pos 4) ∷ some (pos 9) ∷ [])
     ∷ (some (pos 2) ∷ [])
+    ∷ difference
     ∷ [])

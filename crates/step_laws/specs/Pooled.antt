@@ -6,40 +6,21 @@ use mathlib.Core.Option.{Option, none, some}
 use Prim.Native.Nat.{ℕ, _+_, _-_, _*_, _^_}
 use lib.Ieee.{Float, binary64, ofBits}
 use lib.IntN.{ℤ, pos}
-use lib.ListN.{length, replicate}
-use Rattle.bytes.specs.Deliver.{delivered}
 use Rattle.numbers.specs.Result.{Result, ok, refused}
 use Rattle.utilities.specs.Lists.{listFrom}
 use Rattle.base.specs.Form.{narrow, intType, floatType}
 use Rattle.base.specs.Sheet.{Nature, absent, wholeRange, floatRange, wholeLists, boolLists, floatLists, Sheet}
 use Rattle.base.specs.Encode.{encode}
-use Rattle.step_laws.specs.Computing.{computing, AllHold}
+use Rattle.step_laws.specs.Computing.{computing}
+use Rattle.step_laws.specs.Examples as Examples
+use Rattle.step_laws.specs.Examples.{AllHold, sheetWith, Example, leaves, Holds}
 use Rattle.step_laws.specs.Shelf.{range, between, minus}
-use Rattle.calls.specs.Single.{Outcome, outcome, single}
 
 -- ---- the sheets
 
--- every field that is not named is zero or absent
+-- not ordered, as Pool leaves it
 abbrev pub sheetOf : ℕ → Bool → ℕ → ℤ → ℕ → Option ℤ → ℤ → Nature → Sheet
-sheetOf type releasable stability rows columns dataset node k = record {
-  fields = record {
-    dataType = type;
-    nullity = false;
-    releasable = releasable;
-    notEmpty = false;
-    ordered = false;
-    cStability = stability;
-    aggregator = 0;
-    rows = some rows;
-    columns = some columns;
-    dataset = dataset;
-    dimensionality = none;
-    sample = none;
-  };
-  node = node;
-  groups = [];
-  nature = k;
-}
+sheetOf type releasable stability rows columns dataset node k = sheetWith type releasable false stability rows columns dataset node k
 
 -- releasable, of a type, with rows and columns: an operand, of node 7, and what Pool gives, of the call's node, 9
 abbrev pub operand : ℕ → ℤ → ℕ → Nature → Sheet
@@ -50,22 +31,9 @@ pooled type columns k = sheetOf type true 0 (pos 2) columns none (pos 9) k
 
 -- ---- the calls
 
--- the bytes of the output buffer are `room` many
-pub record Example : Type 0 where
-  pub left : Sheet
-  pub right : Sheet
-  pub room : ℕ
-  pub expected : Result Sheet
-
-abbrev pub out : Example → List ℕ
-out e = replicate (e .room) 170
-
--- the single call of Pool, with node number 9
-abbrev pub call : Example → Outcome
-call e = single narrow 10 9 (encode narrow (e .left)) (encode narrow (e .right)) (out e)
-
+-- the single call of Pool
 abbrev pub example : Sheet → Sheet → ℕ → Result Sheet → Example
-example l r room g = record { left = l; right = r; room = room; expected = g }
+example l r room g = Examples.example 10 (encode narrow l) (encode narrow r) room g
 
 -- two operands of a type, of one row each and these columns
 abbrev pub pool : ℕ → ℕ → Nature → Nature → Nature → Example
@@ -144,14 +112,6 @@ table =
     ∷ []
 
 -- ---- what each row says
-
-unfoldable pub leaves : Result Sheet → List ℕ → Outcome
-leaves (ok s) lent = outcome 0 (length (encode narrow s)) (delivered lent (encode narrow s))
-leaves (refused n) lent = outcome n 0 lent
-
--- the call leaves just that
-abbrev pub Holds : Example → Type 0
-Holds e = call e ≡ leaves (e .expected) (out e)
 
 -- every row of the table holds
 pub pooling : AllHold Holds table

@@ -5,36 +5,19 @@ use mathlib.Core.List.{List, [], _∷_}
 use mathlib.Core.Option.{Option, none, some}
 use Prim.Native.Nat.{ℕ, _^_}
 use lib.IntN.{ℤ, pos, negℤ}
-use lib.ListN.{length, take, replicate}
+use lib.ListN.{length, replicate}
 use lib.Dec.{leb}
 use Rattle.bytes.specs.Deliver.{delivered}
 use Rattle.base.specs.Form.{narrow, intType}
 use Rattle.base.specs.Sheet.{Nature, wholeRange, wholeLists, Sheet}
 use Rattle.base.specs.Encode.{encode}
-use Rattle.step_laws.specs.Computing.{computing, AllHold}
+use Rattle.step_laws.specs.Computing.{computing}
+use Rattle.step_laws.specs.Examples.{AllHold, sheetWith}
 use Rattle.calls.specs.Single.{Outcome, outcome, single}
 
--- the sheets of the examples: type Int, one row, one column, releasable, node 7, every other field zero or absent
+-- the sheets of the examples: type Int, one row, one column, releasable, every other field zero or absent
 abbrev pub sheetOf : ℤ → Bool → Nature → Sheet
-sheetOf node ordered k = record {
-  fields = record {
-    dataType = intType;
-    nullity = false;
-    releasable = true;
-    notEmpty = false;
-    ordered = ordered;
-    cStability = 0;
-    aggregator = 0;
-    rows = some (pos 1);
-    columns = some 1;
-    dataset = none;
-    dimensionality = none;
-    sample = none;
-  };
-  node = node;
-  groups = [];
-  nature = k;
-}
+sheetOf node ordered k = sheetWith intType true ordered 0 (pos 1) 1 none node k
 
 -- a range of one entry, and one list of categories
 abbrev pub range : Option ℤ → Option ℤ → Nature
@@ -79,14 +62,7 @@ pair c l r e = record { component = c; left = bytesOf l; right = bytesOf r; expe
 abbrev pub alone : ℕ → Nature → Expected → Example
 alone c l e = record { component = c; left = bytesOf l; right = []; expected = e }
 
--- a next step: its left operand is what an example's call left at the start of the output
-abbrev pub next : ℕ → Example → Nature → Expected → Example
-next c before r e = record { component = c; left = take (call before .value) (call before .bytes); right = bytesOf r; expected = e }
-
 -- ---- the table
-
-abbrev pub subtract : Example
-subtract = pair 3 (between (pos 0) (pos 1)) (between (pos 0) (pos 5)) (gives (between (pos 0) (minus 4)))
 
 unfoldable pub table : List Example
 table =
@@ -94,8 +70,8 @@ table =
     ∷ alone 1 (between (minus 7) (minus 2)) (gives (between (pos 2) (pos 7)))
     ∷ alone 1 (between (pos 0) (pos 5)) (gives (between (minus 5) (pos 5)))
     ∷ pair 2 (between (pos 1) (pos 2)) (between (pos 10) (pos 20)) (gives (between (pos 11) (pos 22)))
-    ∷ subtract
-    ∷ next 2 subtract (between (pos 0) (pos 5)) (says 5)
+    -- by 02, S-4, "The first shelf example of Subtract becomes [0,1] minus [0,5] → [-5,1]"
+    ∷ pair 3 (between (pos 0) (pos 1)) (between (pos 0) (pos 5)) (gives (between (minus 5) (pos 1)))
     ∷ pair 4 (between (minus 2) (pos 3)) (between (pos 4) (pos 5)) (gives (between (minus 10) (pos 15)))
     ∷ pair 5 (between (minus 7) (pos 7)) (between (pos 2) (pos 3)) (gives (between (minus 3) (pos 3)))
     ∷ pair 5 (between (pos 1) (pos 10)) (between (pos 0) (pos 5)) (gives (range none (some (pos 2))))
@@ -126,4 +102,4 @@ Holds e = call e ≡ leaves (e .component) (e .expected)
 pub shelf : AllHold Holds table
 unfolding table AllHold leaves bytesOf computing
 shelf =
-    (refl, (refl, (refl, (refl, (refl, (refl, (refl, (refl, (refl, (refl, (refl, (refl, (refl, (refl, (refl, tt)))))))))))))))
+    (refl, (refl, (refl, (refl, (refl, (refl, (refl, (refl, (refl, (refl, (refl, (refl, (refl, (refl, tt))))))))))))))

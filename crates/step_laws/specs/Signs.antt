@@ -14,8 +14,9 @@ use Rattle.base.specs.Form.{narrow, floatType}
 use Rattle.base.specs.Sheet.{Sheet, floatRange}
 use Rattle.base.specs.Encode.{encode}
 use Rattle.ends.specs.Signs.{negBits, absBits}
-use Rattle.step_laws.specs.Computing.{computing, AllHold}
-use Rattle.step_laws.specs.Pooled.{sheetOf, leaves}
+use Rattle.step_laws.specs.Computing.{computing}
+use Rattle.step_laws.specs.Examples.{AllHold, leaves}
+use Rattle.step_laws.specs.Pooled.{sheetOf}
 use Rattle.calls.specs.Single.{Outcome, single}
 
 -- ---- the sheets, by the bits of the only entry's ends

@@ -11,10 +11,10 @@ use Rattle.utilities.specs.Lists.{listFrom}
 use Rattle.base.specs.Form.{narrow, intType}
 use Rattle.base.specs.Sheet.{Nature, absent, wholeLists, textLists, Sheet}
 use Rattle.base.specs.Encode.{spot, encode}
-use Rattle.step_laws.specs.Computing.{computing, AllHold}
+use Rattle.step_laws.specs.Computing.{computing}
+use Rattle.step_laws.specs.Examples.{AllHold, Example, example, leaves, Holds}
 use Rattle.step_laws.specs.Shelf.{sheetOf, between, bytesOf}
-use Rattle.step_laws.specs.Pooled.{operand, pooled, most, leaves}
-use Rattle.calls.specs.Single.{Outcome, single}
+use Rattle.step_laws.specs.Pooled.{operand, pooled, most}
 
 -- ---- the texts
 
@@ -55,24 +55,6 @@ abbrev pub long : ℕ → List ℕ
 long k = replicate k 97
 
 -- ---- the calls
-
--- operands are bytes, those of the output buffer `room` many
-pub record Example : Type 0 where
-  pub component : ℕ
-  pub left : List ℕ
-  pub right : List ℕ
-  pub room : ℕ
-  pub expected : Result Sheet
-
-abbrev pub out : Example → List ℕ
-out e = replicate (e .room) 170
-
--- the single call of an example, with node number 9
-abbrev pub call : Example → Outcome
-call e = single narrow (e .component) 9 (e .left) (e .right) (out e)
-
-abbrev pub example : ℕ → List ℕ → List ℕ → ℕ → Result Sheet → Example
-example k l r room g = record { component = k; left = l; right = r; room = room; expected = g }
 
 -- Add of one list and one list, in just so many bytes
 abbrev pub join : ℕ → List (List ℕ) → List (List ℕ) → List (List ℕ) → Example
@@ -164,10 +146,6 @@ abbrev pub table : List Example
 table = rules ++ areas ++ limits
 
 -- ---- what each row says
-
--- the call leaves just that
-abbrev pub Holds : Example → Type 0
-Holds e = call e ≡ leaves (e .expected) (out e)
 
 -- every row of the table holds
 pub texts : AllHold Holds table
