@@ -8,11 +8,11 @@
 //! use gate_runtime::text;
 //! let plan = text::read("leaf brine_in  : int, whole [-5, 3], rows 8, releasable\n\
 //!                        leaf brine_out : int, whole [0, 7], rows 8, releasable\n\
-//!                        sum = add brine_in brine_out\n").unwrap();
+//!                        gap = subtract brine_in brine_out\n").unwrap();
 //! let walk = plan.plan.walk(&plan.leaves);
 //! assert_eq!(walk.outcome, Ok(3));
-//! let sum = walk.sheets[2].as_ref().unwrap();
-//! assert_eq!(gate_runtime::show::nature(&sum.nature), "[-5, +10]");
+//! let gap = walk.sheets[2].as_ref().unwrap();
+//! assert_eq!(gate_runtime::show::nature(&gap.nature), "[-12, +3]");
 //! ```
 //!
 //! All functions may be called from any number of threads at once.

@@ -78,7 +78,7 @@ const TABLE: [Row; 28] = [
     (Refusal::FieldValue, "A field has none of its permitted values.",
      "Columns are 1 to 16; marks are 0 or 1; natures, data types and kinds have their listed numbers; list numbers never fall and stay below the list count; absent values and reserved bytes are zero. Texts lie end to end in the order of their values, from 0 to the end of the text area, which is empty unless the categories are text."),
     (Refusal::BadBound, "A float bound is infinite or NaN, or a lower bound exceeds its upper.",
-     "A leaf's range must have its lower end first. A derived range can come out this way too, by subtract of two ranges or by a float overflow: the step that made it is accepted, and the step that reads it is refused."),
+     "A leaf's range must have its lower end first, and float ends must be finite. A derived range fails by an infinite float end alone, which a card shows as -overflow or +overflow: the step that made it is accepted, and the step that reads it is refused. Narrow the ranges of the leaves. Where nobody knows an end, state none (`..`) instead of a huge number."),
     (Refusal::Aggregated, "An operand that isn't releasable has an aggregator.",
      "A private result of an aggregation takes no further steps. Release it first, or leave the step out."),
     (Refusal::Sampled, "An operand that isn't releasable has a sample proportion present and not equal to 1.",
@@ -200,5 +200,14 @@ mod tests {
         assert_eq!((NARROW.longest(), NARROW.text), (2308, 1024));
         assert!(Refusal::SheetSize.explain().contains("2,308") && Refusal::OutputTooShort.explain().contains("2,308"));
         assert!(Refusal::SheetSize.explain().contains("1,024") && Refusal::TooMuchText.sentence().contains("1,024"));
+    }
+
+    /// No component puts a lower end above its upper.
+    #[test]
+    fn a_derived_range_is_said_to_fail_5_by_an_infinite_end_alone() {
+        let text = Refusal::BadBound.explain();
+        assert!(text.contains("A leaf's range must have its lower end first"), "{text}");
+        assert!(text.contains("A derived range fails by an infinite float end alone"), "{text}");
+        assert!(!text.contains("subtract"), "{text}");
     }
 }

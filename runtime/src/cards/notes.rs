@@ -1,6 +1,6 @@
 //! What a reader should know of the ranges that a card shows.
 //!
-//! The rules behind the notes on subtract, divide and left's marks are the original's, ported as they are, and pool's fields are as document 02 gives them; docs/DIFFERENCES.md has all of it in full.
+//! The rules behind the notes on divide and left's marks are the original's, ported as they are, and pool's fields are as document 02 gives them; docs/DIFFERENCES.md has all of it in full.
 
 use super::{State, Walked};
 use crate::component::Component;
@@ -38,36 +38,28 @@ fn any_entry(sheet: Option<&Sheet>, test: impl Fn((Bound, Bound)) -> bool) -> bo
 fn of_step(walked: &Walked, node: usize) -> Vec<String> {
     let mut notes = Vec::new();
     let name = format!("node {node} `{}`", walked.name(node));
-    if let Some(reason) = too_narrow(walked, node) {
+    if too_narrow(walked, node) {
+        let reason = "divide by a range with one end at zero takes its end from the other one";
         notes.push(format!("{name}: {reason}; results may lie outside of the range shown."));
     }
     if marked_by_left(walked, node) {
         notes.push(format!("{name}: it has left's marks and so counts as releasable, while right is private."));
     }
     notes.extend(of_pool(walked, node).into_iter().map(|text| format!("{name}: {text}.")));
-    let sheet = walked.sheet(node);
-    if any_entry(sheet, infinite) {
-        notes.push(format!("{name}: a float end overflowed; a step that uses this node is refused with 5."));
-    } else if any_entry(sheet, exceeds) {
-        notes.push(format!("{name}: a lower end exceeds its upper; a step that uses this node is refused with 5."));
+    if any_entry(walked.sheet(node), infinite) {
+        let meaning = "-overflow and +overflow stand for an end that is too far from zero for a float and so infinite";
+        notes.push(format!("{name}: {meaning}; a step that uses this node is refused with 5."));
     }
     notes
 }
 
-/// The two rules whose ranges need not hold every result.
-fn too_narrow(walked: &Walked, node: usize) -> Option<&'static str> {
-    let step = walked.plan.plan.step_of(node)?;
-    let (left, right) = (walked.sheet(step.left)?, walked.sheet(step.right)?);
-    let ranges = left.nature.is_range() && right.nature.is_range();
-    match step.component {
-        Component::Subtract if ranges && any_entry(Some(right), |(lower, upper)| !is_point(lower, upper)) => {
-            Some("subtract takes lower - lower and upper - upper")
-        }
-        Component::Divide if ranges && one_zero_end(&left.nature, &right.nature) => {
-            Some("divide by a range with one end at zero takes its end from the other one")
-        }
-        _ => None,
-    }
+/// The rule whose range need not hold every result.
+fn too_narrow(walked: &Walked, node: usize) -> bool {
+    let step = walked.plan.plan.step_of(node).filter(|step| step.component == Component::Divide);
+    let Some((left, right)) = step.and_then(|step| Some((walked.sheet(step.left)?, walked.sheet(step.right)?))) else {
+        return false;
+    };
+    left.nature.is_range() && right.nature.is_range() && one_zero_end(&left.nature, &right.nature)
 }
 
 /// Modulo, log and power copy left's marks, whatever right's are.
@@ -115,11 +107,6 @@ fn leaves_below(walked: &Walked, node: usize) -> BTreeSet<usize> {
     below
 }
 
-/// A single number, of which lower − lower and upper − upper are right.
-fn is_point(lower: Bound, upper: Bound) -> bool {
-    lower != Bound::Absent && lower == upper
-}
-
 fn one_zero_end(left: &Nature, right: &Nature) -> bool {
     let zero = |bound| matches!(bound, Bound::Whole(0)) || matches!(bound, Bound::Float(end) if end == 0.0);
     let present = |(lower, upper)| lower != Bound::Absent && upper != Bound::Absent;
@@ -130,15 +117,8 @@ fn one_zero_end(left: &Nature, right: &Nature) -> bool {
     })
 }
 
+/// Of a derived range the only fault under 5: no rule puts a lower end above its upper.
 fn infinite((lower, upper): (Bound, Bound)) -> bool {
     let infinite = |bound| matches!(bound, Bound::Float(end) if end.is_infinite());
     infinite(lower) || infinite(upper)
-}
-
-fn exceeds((lower, upper): (Bound, Bound)) -> bool {
-    match (lower, upper) {
-        (Bound::Whole(lower), Bound::Whole(upper)) => lower > upper,
-        (Bound::Float(lower), Bound::Float(upper)) => lower > upper,
-        _ => false,
-    }
 }

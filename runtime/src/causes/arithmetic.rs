@@ -121,13 +121,14 @@ fn first_fault(component: Component, left: &[i64], right: &[i64]) -> Option<Stri
     None
 }
 
-/// The operations that a column's end rule takes, in order.
+/// The operations that a column's end rule takes, in order. In add and subtract an end that lacks one of its two is absent, and takes none.
 fn range_operations(component: Component, left: WholeEnds, right: WholeEnds) -> Vec<Operation> {
     let pick = |a: Option<i128>, b: Option<i128>| Some(operation(component, a?, b?));
     match component {
         Component::Abs => abs_operations(left),
         Component::Negative => [left.1, left.0].into_iter().flatten().map(negation).collect(),
-        Component::Add | Component::Subtract => [pick(left.0, right.0), pick(left.1, right.1)].into_iter().flatten().collect(),
+        Component::Add => [pick(left.0, right.0), pick(left.1, right.1)].into_iter().flatten().collect(),
+        Component::Subtract => [pick(left.0, right.1), pick(left.1, right.0)].into_iter().flatten().collect(),
         _ => corners(component, left, right),
     }
 }

@@ -184,17 +184,22 @@ fn bad_entries(sheet: &Sheet) -> impl Iterator<Item = String> + '_ {
     })
 }
 
-fn bad_entry((lower, upper): (Bound, Bound)) -> Option<&'static str> {
-    let infinite = |bound| matches!(bound, Bound::Float(end) if !end.is_finite());
-    if infinite(lower) || infinite(upper) {
-        return Some("an end is not a finite number");
+fn bad_entry((lower, upper): (Bound, Bound)) -> Option<String> {
+    let fault = |(end, bound)| match bound {
+        Bound::Float(number) if number.is_nan() => Some(format!("the {end} end is not a number")),
+        Bound::Float(number) if number.is_infinite() => Some(format!("the {end} end is infinite")),
+        _ => None,
+    };
+    let faults: Vec<String> = [("lower", lower), ("upper", upper)].into_iter().filter_map(fault).collect();
+    if !faults.is_empty() {
+        return Some(faults.join(", "));
     }
     let exceeds = match (lower, upper) {
         (Bound::Whole(lower), Bound::Whole(upper)) => lower > upper,
         (Bound::Float(lower), Bound::Float(upper)) => lower > upper,
         _ => false,
     };
-    exceeds.then_some("the lower end exceeds the upper")
+    exceeds.then(|| "the lower end exceeds the upper".to_string())
 }
 
 /// A component and its operands, both well formed. For abs and negative right is left.

@@ -31,7 +31,8 @@ pub(super) const CARDS: &str = "usage: gate cards [--json] [--svg FILE] PLAN...
 Reads each plan's text, hands it to the proved calls and prints its card: node,
 name, component and operands, type, the range or the categories of each column,
 columns, rows, dataset and marks. `-` reads standard input. Both signs are
-written; -inf and +inf stand for an end that sets no bound. Texts stand in
+written; -inf and +inf stand for an end that sets no bound, -overflow and
++overflow for an end that is too far from zero for a float. Texts stand in
 quotes, with the escapes of `gate help format`.
 
 A refused plan also says which node was refused, with which number, and what of
@@ -53,11 +54,11 @@ Without a number it lists all of them.
 pub(super) const FORMAT: &str = "A plan is a text. One line is one node: a leaf, or a step over earlier nodes.
 A # begins a comment; a line that ends in a comma goes on in the next.
 
-  # the brine of two pumps
+  # the brine of a rink, in and out
   leaf brine_in  : int, whole [-12, 3], rows 96, dataset 1
   leaf brine_out : int, whole [-9, 5], rows 96, dataset 1
-  sum = add brine_in brine_out
-  far = abs sum
+  gap = subtract brine_in brine_out
+  far = abs gap
 
 leaf NAME : TYPE, ITEM, ...       TYPE is int, float, bool, str or unknown
   whole [LOW, HIGH]               a range of whole numbers, for all columns

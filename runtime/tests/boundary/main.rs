@@ -2,6 +2,7 @@
 
 mod canaries;
 mod causes;
+mod differences;
 mod made;
 mod refusals;
 mod round_trips;

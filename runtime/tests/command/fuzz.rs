@@ -87,6 +87,8 @@ p = pool a a
 q = pool f f
 r = add t t
 s = pool r t
+u = subtract a b
+v = log e e
 ";
 
 /// Numbers from a seed (xorshift), so that every run makes the same ones.

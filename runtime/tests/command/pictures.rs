@@ -48,6 +48,19 @@ fn json_says_what_the_card_says() {
 }
 
 #[test]
+fn json_and_picture_tell_an_infinite_end_from_an_absent_one() {
+    let card = card("overflow");
+    let document = json_reader::read(&json::document(std::slice::from_ref(&card)).write()).unwrap();
+    let plan = &document.at("plans").list()[0];
+    let gap = plan.at("nodes").list()[2].at("sheet").at("ranges").list()[0].clone();
+    assert_eq!((gap.at("lower").text(), gap.at("upper").number(), gap.at("text").text()), ("-inf", "1.0", "[-overflow, +1.0]"));
+    let refusal = plan.at("refusal");
+    assert_eq!((refusal.at("number").number(), refusal.at("name").text()), ("5", "distance"));
+    assert_eq!(refusal.at("causes").list()[0].text(), "operand `gap`, column 1: [-overflow, +1.0]: the lower end is infinite");
+    assert!(picture(&card).contains(&"[-overflow, +1.0]".to_string()));
+}
+
+#[test]
 fn json_and_picture_show_pool_by_its_word() {
     let card = card("twin_plants");
     let document = json_reader::read(&json::document(std::slice::from_ref(&card)).write()).unwrap();

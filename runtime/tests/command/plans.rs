@@ -210,21 +210,29 @@ fn a_thirty_third_node_is_named() {
     assert_eq!(Card::of("fits", fits.as_bytes()).exit_code(), 0);
 }
 
+/// The notes on steps over a range, one with an end at zero, a private number and the greatest floats.
+fn notes(steps: &str) -> Vec<String> {
+    let leaves = "leaf a : int, whole [1, 10], rows 1, releasable\nleaf z : int, whole [0, 5], rows 1, releasable\n\
+                  leaf one : int, whole [1, 1], rows 1\nleaf f : float, float [1.7e308, 1.7e308], rows 1, releasable\n";
+    let card = Card::of("f", format!("{leaves}{steps}").as_bytes());
+    assert_eq!(card.exit_code(), 0, "{steps}");
+    card.render().0.lines().filter(|line| line.starts_with("Note: ")).map(str::to_string).collect()
+}
+
 #[test]
 fn notes_name_ranges_that_need_care() {
-    let card = |steps: &str| {
-        let leaves = "leaf a : int, whole [1, 10], rows 1, releasable\nleaf z : int, whole [0, 5], rows 1, releasable\n\
-                      leaf one : int, whole [1, 1], rows 1\nleaf f : float, float [1.7e308, 1.7e308], rows 1, releasable\n";
-        let card = Card::of("f", format!("{leaves}{steps}").as_bytes());
-        assert_eq!(card.exit_code(), 0, "{steps}");
-        let out = card.render().0;
-        out.lines().filter(|line| line.starts_with("Note: ")).map(str::to_string).collect::<Vec<String>>()
-    };
     for (step, note) in [
-        ("s = subtract a z", "node 4 `s`: subtract takes lower - lower and upper - upper; results may lie outside"),
-        ("s = divide a z", "node 4 `s`: divide by a range with one end at zero"),
+        (
+            "s = divide a z",
+            "node 4 `s`: divide by a range with one end at zero takes its end from the other one; results may lie outside of the range shown.",
+        ),
         ("s = modulo a one", "node 4 `s`: it has left's marks and so counts as releasable, while right is private"),
-        ("s = add f f", "node 4 `s`: a float end overflowed; a step that uses this node is refused with 5"),
+        (
+            "s = add f f",
+            "node 4 `s`: -overflow and +overflow stand for an end that is too far from zero for a float and so infinite; \
+             a step that uses this node is refused with 5.",
+        ),
+        ("t = negative f\ns = subtract t f", "node 5 `s`: -overflow and +overflow stand for an end"),
         ("s = power a one", "node 4 `s`: it has left's marks"),
         (
             "s = pool one one",
@@ -232,13 +240,46 @@ fn notes_name_ranges_that_need_care() {
         ),
         ("t = abs one\nu = add t a\ns = pool u one", "node 6 `s`: both operands hold `one`, so that"),
     ] {
-        assert!(card(step)[0].contains(note), "{step}: {:?}", card(step));
+        assert!(notes(step).first().is_some_and(|first| first.contains(note)), "{step}: {:?}", notes(step));
     }
-    for step in
-        ["s = subtract a one", "s = divide a a", "s = modulo one a", "s = add a z", "s = multiply a z", "s = pool a a", "s = pool a one"]
-    {
-        assert_eq!(card(step), [""; 0], "{step}");
+}
+
+#[test]
+fn ranges_that_hold_every_result_have_no_note() {
+    for step in [
+        "s = subtract a z",
+        "t = subtract z a\ns = abs t",
+        "s = subtract a one",
+        "s = subtract f f",
+        "s = divide a a",
+        "s = modulo one a",
+        "s = add a z",
+        "s = multiply a z",
+        "s = pool a a",
+        "s = pool a one",
+    ] {
+        assert_eq!(notes(step), [""; 0], "{step}");
     }
+}
+
+/// An infinite end is told from an absent one: the card, the cause and the way out of it.
+#[test]
+fn an_end_that_overflows_is_named() {
+    let render = |low: &str, high: &str| {
+        let leaves = format!(
+            "leaf a : float, float [0, 1] [{low}, 1], rows 1, releasable\nleaf b : float, float [0, {high}] [0, {high}], rows 1, releasable\n"
+        );
+        let card = Card::of("f", format!("{leaves}gap = subtract a b\nfar = abs gap\n").as_bytes());
+        (card.exit_code(), card.render().0)
+    };
+    let (code, text) = render("-1.7e308", "1.7e308");
+    assert_eq!(code, 1, "{text}");
+    assert!(text.contains("1: [-1.7e308, +1.0]") && text.contains("2: [-overflow, +1.0]"), "{text}");
+    let causes: Vec<&str> = text.lines().filter(|line| line.contains("column")).skip(1).collect();
+    assert_eq!(causes, ["  operand `gap`, column 2: [-overflow, +1.0]: the lower end is infinite"], "{text}");
+    let (code, text) = render("..", "..");
+    assert_eq!((code, text.contains("overflow")), (0, false), "{text}");
+    assert!(text.contains("[-inf, +1.0]"), "{text}");
 }
 
 #[test]

@@ -52,6 +52,7 @@ fn the_format_help_shows_a_plan_and_every_item() {
     let run = gate_with(&["cards", "-"], plan.join("\n").as_bytes());
     assert_eq!(run.code, Some(0), "{run:?}");
     assert!(run.out.starts_with("-: accepted, 4 nodes"), "{}", run.out);
+    assert!(run.out.contains("subtract brine_in brine_out  int   [-17, +12]"), "{}", run.out);
     let readme = fs::read_to_string(root().join("runtime/README.md")).unwrap();
     let words = "leaf int float bool str unknown whole text range categories columns rows dataset dimensions sample stability aggregator \
                  node groups releasable private nullable nonempty ordered abs add subtract multiply divide modulo log power negative \
