@@ -96,6 +96,15 @@ module _ (x y : ℤ) where
       (taken-is (λ n. n ≤ℤ greater whole f c) side (≤-trans h (greater-right f c)) (≤-trans k (greater-left f c))))
       e p q
 
+-- why Subtract's ends cross: with lower − lower and upper − upper, as 01 had it, 0 is in [0, 0] and in [0, 1], and 0 − 0 is not in [0, −1]
+pub end-by-end-too-narrow :
+    (both (fromTwo (whole .sub) (some (pos 0)) (some (pos 0))) (fromTwo (whole .sub) (some (pos 0)) (some (pos 1))) ≡ ok (spanOf (some (pos 0)) (some (negsuc 0))))
+    × (InSpan (some (spanOf (some (pos 0)) (some (pos 0)))) (pos 0))
+    × (InSpan (some (spanOf (some (pos 0)) (some (pos 1)))) (pos 0))
+    × (InSpan (some (spanOf (some (pos 0)) (some (negsuc 0)))) (pos 0 -ℤ pos 0) → ⊥)
+unfolding fromTwo checkedOf
+end-by-end-too-narrow = (refl, (record { le = tt }, record { le = tt }), (record { le = tt }, record { le = tt }), λ k. k .1 .le)
+
 neg-low : (x : ℤ) (c t : Option ℤ) → fromOne (whole .neg) c ≡ ok t → AtMost c x → AtLeast t (negℤ x)
 unfolding fromOne
 neg-low x none t e h = no-low t (negℤ x) e

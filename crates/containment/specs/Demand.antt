@@ -100,8 +100,8 @@ OffZero (floatLists ls) j = ⊥
 OffZero (textLists ls) j = ⊥
 
 -- what a step's component asks of its operands' sheets: "let each Power have Int operands, and let each Divide's divisor sheet state a lower above 0, an
--- upper below 0 or categories without 0 in every column". 01 asked "let no Subtract join two ranges" too; 02, S-4, takes it away: "a plan may subtract
--- whole ranges and still keep its values inside what it states"
+-- upper below 0 or categories without 0 in every column". The demand's "let no Subtract join two ranges" is gone with 02, S-4: "a plan may subtract whole
+-- ranges and still keep its values inside what it states"
 abbrev pub Suits : Numbered → Sheet → Sheet → Type 0
 Suits N.Unlisted l r = Unit {0}
 Suits (N.Is C.Abs) l r = Unit {0}

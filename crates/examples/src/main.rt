@@ -62,7 +62,7 @@ fn pair(component: u32, e: Ends, f: Ends, columns: u8) {
     line_end();
 }
 
-// A difference, and the negative of the sheet that it wrote.
+// A difference, and Abs of the sheet that it wrote.
 fn next_step(e: Ends, f: Ends) {
     let mut left = [0u8; form::NARROW_LONGEST];
     let mut right = [0u8; form::NARROW_LONGEST];
@@ -77,7 +77,7 @@ fn next_step(e: Ends, f: Ends) {
         &mut out,
     );
     line_end();
-    derive(Component::NEGATIVE, show::front(&out, n), b"", &mut last);
+    derive(Component::ABS, show::front(&out, n), b"", &mut last);
     line_end();
 }
 
@@ -155,7 +155,12 @@ fn starred() {
     alone(Component::ABS, sheet::whole(-7, -2));
     alone(Component::ABS, sheet::whole(0, 5));
     pair(Component::ADD, sheet::whole(1, 2), sheet::whole(10, 20), 1);
-    next_step(sheet::whole(0, 1), sheet::whole(0, 5));
+    pair(
+        Component::SUBTRACT,
+        sheet::whole(0, 1),
+        sheet::whole(0, 5),
+        1,
+    );
     pair(
         Component::MULTIPLY,
         sheet::whole(-2, 3),
@@ -202,6 +207,29 @@ fn pooled() {
     with_categories(Component::POOL, 1, 2, 2, 3);
 }
 
+// Each end crosses: it is absent if one of its own two is, and leaves 64 bits by itself.
+fn differences() {
+    next_step(sheet::whole(0, 1), sheet::whole(0, 5));
+    pair(
+        Component::SUBTRACT,
+        sheet::whole(4, 9),
+        Ends(Bound::Absent, Bound::Whole(3)),
+        1,
+    );
+    pair(
+        Component::SUBTRACT,
+        sheet::whole(-5, -2),
+        sheet::whole(-9223372036854775808, -9223372036854775808),
+        1,
+    );
+    pair(
+        Component::SUBTRACT,
+        sheet::whole(-1, 4),
+        sheet::whole(-9223372036854775808, 3),
+        1,
+    );
+}
+
 fn main() {
     io::write_all(STDOUT_FILENO, b"Starred\n");
     starred();
@@ -217,4 +245,6 @@ fn main() {
     rows_of_one_dataset();
     io::write_all(STDOUT_FILENO, b"Pool\n");
     pooled();
+    io::write_all(STDOUT_FILENO, b"Subtract of ranges\n");
+    differences();
 }
