@@ -8,6 +8,8 @@ mod pool;
 mod shelf;
 #[path = "../../port/tests/examples/sign.rs"]
 mod sign;
+#[path = "../../port/tests/examples/subtract.rs"]
+mod subtract;
 #[path = "../../port/tests/examples/text.rs"]
 mod text;
 

@@ -93,13 +93,15 @@ pub fn binary<T: Number>(
 ) -> Result<Ends<T>, Refusal> {
     match component {
         ADD => end_by_end(left, right, T::add),
-        SUBTRACT => end_by_end(left, right, T::sub),
+        SUBTRACT => subtract(left, right),
         MULTIPLY => multiply(left, right),
         POOL => pool(left, right),
         _ => divide(left, right),
     }
 }
 
+/// First with first and second with second, the first pair before the other;
+/// absent where one of a pair is.
 fn end_by_end<T: Number>(
     left: Ends<T>,
     right: Ends<T>,
@@ -110,6 +112,13 @@ fn end_by_end<T: Number>(
         _ => Ok(None),
     };
     Ok((end(left.0, right.0)?, end(left.1, right.1)?))
+}
+
+/// The farthest ends of right are taken off: its upper from left's lower, its
+/// lower from left's upper (document 02, S-4). Right is not negated on the way,
+/// since -2^63 has no negation in 64 bits.
+fn subtract<T: Number>(left: Ends<T>, (lower, upper): Ends<T>) -> Result<Ends<T>, Refusal> {
+    end_by_end(left, (upper, lower), T::sub)
 }
 
 fn multiply<T: Number>(left: Ends<T>, right: Ends<T>) -> Result<Ends<T>, Refusal> {

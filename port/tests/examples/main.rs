@@ -4,6 +4,7 @@ mod made;
 mod pool;
 mod shelf;
 mod sign;
+mod subtract;
 mod text;
 
 /// Who answers.
