@@ -1,7 +1,7 @@
 //! Named cases: document 01's worked examples, and inputs on which a reading
 //! of it and of document 02 can go wrong. Each says the answer that is expected.
-//! Pool's, and texts that are no UTF-8, stand by themselves, since the original
-//! has no answer to them.
+//! Pool's, texts that are no UTF-8, and range Subtracts stand by themselves, since
+//! the original has no answer to them, or another one.
 
 use crate::form::{Answer, Call};
 use crate::sheet::{Sheet, LONGEST};
@@ -54,7 +54,7 @@ impl Case {
             Ok(code) => Err(format!("{}: {}, wanted {code}", self.label, answer.code)),
             Err(_) if answer.code != 0 => Err(format!("{}: {}", self.label, answer.code)),
             Err(_) => {
-                // A result may hold an infinite or crossed end, which 5 refuses.
+                // A result may hold an infinite end, which 5 refuses.
                 let written = Sheet::decode_unordered(&answer.bytes)
                     .map_err(|code| format!("{}: the result is {code}", self.label))?;
                 text::matches(self.expected, &written)
@@ -109,20 +109,28 @@ pub fn raw() -> Vec<Case> {
     RAW.iter().map(Case::new).collect()
 }
 
-/// Document 01's worked examples alone.
+/// Range Subtracts, for whoever answers by document 02's rule.
+pub fn differences() -> Vec<Case> {
+    let mut cases: Vec<Case> = DIFFERENCES.iter().map(Case::new).collect();
+    let call = ["W[0,1]", "W[0,5]"];
+    let short = "Subtract into 97 bytes of 98";
+    cases.push(Case::at(short, 3, call, (NODE, 97), "27"));
+    cases
+}
+
+/// Document 01's worked examples alone, without that of Subtract, which document
+/// 02 gives another answer.
 pub fn shelf() -> Vec<Case> {
     SHELF.iter().map(Case::new).collect()
 }
 
-/// Document 01's worked examples.
+/// Document 01's worked examples that the original answers.
 #[rustfmt::skip] // one case a line
 const SHELF: &[Row] = &[
     ("Abs [-5,3]", 1, "W[-5,3]", "empty", "W[-3,5]"),
     ("Abs [-7,-2]", 1, "W[-7,-2]", "empty", "W[2,7]"),
     ("Abs [0,5]: the lower is not 0", 1, "W[0,5]", "empty", "W[-5,5]"),
     ("Add [1,2],[10,20]", 2, "W[1,2]", "W[10,20]", "W[11,22]"),
-    ("Subtract [0,1],[0,5]", 3, "W[0,1]", "W[0,5]", "W[0,-4]"),
-    ("a next step refuses [0,-4]", 9, "W[0,-4]", "empty", "5"),
     ("Multiply [-2,3],[4,5]", 4, "W[-2,3]", "W[4,5]", "W[-10,15]"),
     ("Divide [-7,7],[2,3]", 5, "W[-7,7]", "W[2,3]", "W[-3,3]"),
     ("Divide [1,10],[0,5]", 5, "W[1,10]", "W[0,5]", "W[_,2]"),
@@ -242,6 +250,12 @@ const ORDER: &[Row] = &[
     ("Power: 21 before 8", 8, "W{1} type=Float releasable=0 groups=1:i1", "B{1} type=Float releasable=0", "21"),
     ("Log: 17 before 8", 7, "F[1.0,2.0] type=Float releasable=0 groups=1:i1", "W[2,2] releasable=0", "17"),
     ("17 before 18", 2, "W[1,2][1,2][1,2] columns=2", "F[1.0,2.0] columns=2", "17"),
+    ("Subtract of a whole and a float range", 3, "W[1,2]", "F[1.0,2.0]", "17"),
+    ("Subtract of a float and a whole range", 3, "F[1.0,2.0]", "W[1,2]", "17"),
+    ("Subtract: 17 before 18", 3, "W[1,2][1,2][1,2] columns=2", "F[1.0,2.0] columns=2", "17"),
+    ("Subtract: 12 before 14", 3, "W[1,2] columns=2", "W[1,2] columns=3 type=Float", "12"),
+    ("Subtract: 14 before the ends", 3, "W[-9223372036854775808,0]", "W[1,2] type=Float", "14"),
+    ("Subtract of ranges: right's columns absent", 3, "F[0.5,1.0]", "F[0.5,1.0] columns=_", "11"),
     ("18 on every list before any column's 24", 2, "W[9223372036854775807,9223372036854775807] columns=2", "W[1,2][1,2][1,2] columns=2", "18"),
     ("left without lists, float right", 2, "Wlists", "F{1.0}", "20"),
     ("left float without lists", 2, "Flists", "W{1}", "19"),
@@ -345,7 +359,6 @@ const ENDS: &[Row] = &[
     ("Divide: left's absent end comes first, [0,0]", 5, "W[_,5]", "W[0,0]", "W[_,_]"),
     ("Divide: left's absent end comes first, no 23", 5, "W[1,_]", "W[_,_]", "W[_,_]"),
     ("Add: each end on its own", 2, "W[1,_]", "W[10,20]", "W[11,_]"),
-    ("Subtract: each end on its own", 3, "W[_,5]", "W[1,2]", "W[_,3]"),
     ("Multiply needs all ends", 4, "W[1,_]", "W[10,20]", "W[_,_]"),
     ("a float sum may be infinite", 2, "F[1.7e308,1.7e308]", "F[1.7e308,1.7e308]", "F[inf,inf]"),
     ("a float product may be infinite", 4, "F[-1e308,1e308]", "F[10.0,10.0]", "F[-inf,inf]"),
@@ -356,7 +369,6 @@ const ENDS: &[Row] = &[
     ("a quotient truncates", 5, "W[-7,-7]", "W[2,2]", "W[-3,-3]"),
     ("float ranges of type Str", 2, "F[0.5,1.0] type=Str", "F[0.5,1.0] type=Str", "F[1.0,2.0] type=Str"),
     ("Add: the lower leaves 64 bits", 2, "W[-9223372036854775808,0]", "W[-1,0]", "24"),
-    ("Subtract: the upper leaves 64 bits", 3, "W[0,9223372036854775807]", "W[-1,-1]", "24"),
     ("Multiply: a corner leaves 64 bits", 4, "W[0,4611686018427387904]", "W[0,2]", "24"),
     ("Multiply: -2^63 times -1", 4, "W[-9223372036854775808,0]", "W[-1,0]", "24"),
 ];
@@ -386,6 +398,11 @@ const CATEGORIES: &[Row] = &[
     ("three entries over two columns with categories", 2, "W[1,2]*3 columns=2", "W{1} columns=2", "absent"),
     ("an absent nature with no entries", 2, "absent", "Wrange", "absent"),
     ("{5,1} - {1,5}", 3, "W{5,1}", "W{1,5}", "W{4,0,-4}"),
+    ("{7,2} - {2,7}", 3, "W{7,2}", "W{2,7}", "W{5,0,-5}"),
+    ("a difference of categories leaves 64 bits", 3, "W{0}", "W{1,-9223372036854775808}", "24"),
+    ("a difference of categories just fits", 3, "W{-1}", "W{-9223372036854775808}", "W{9223372036854775807}"),
+    ("a range less categories", 3, "W[1,2]", "W{1}", "absent"),
+    ("categories less a range", 3, "W{1}", "F[1.0,2.0]", "absent"),
     ("{2,3,2} * {3,2}", 4, "W{2,3,2}", "W{3,2}", "W{6,4,9}"),
     ("quotients of categories truncate", 5, "W{-7,7}", "W{2}", "W{-3,3}"),
     ("repeats go list by list", 2, "W{1,1}{1} columns=2", "W{0}{0,0} columns=2", "W{1}{1}"),
@@ -469,7 +486,7 @@ const FIELDS: &[Row] = &[
     ("that sheet is refused by a next step", 2, "W[2,4] releasable=0 sample=0.5", "W[1,2]", "7"),
     ("absent dimensionality is least", 2, "W[1,2]", "W[1,2] dim=-4", "W[2,4] dim=-4"),
     ("ordered is set", 2, "W[1,2] ordered=0", "W[1,2] ordered=0", "W[2,4] ordered=1"),
-    ("nullity either, not empty both", 3, "W[1,2] nullity=1", "W[1,2] notempty=0", "W[0,0] nullity=1 notempty=0"),
+    ("nullity either, not empty both", 4, "W[1,2] nullity=1", "W[1,2] notempty=0", "W[1,4] nullity=1 notempty=0"),
     ("Divide's nullity: F[1,_]", 5, "W{1}", "F[1.0,_]", "absent nullity=1"),
     ("Divide's nullity: F[-1,_]", 5, "W{1}", "F[-1.0,_]", "absent nullity=0"),
     ("Divide's nullity: F[0.0,_]", 5, "W{1}", "F[0.0,_]", "absent nullity=0"),
@@ -490,6 +507,34 @@ const FIELDS: &[Row] = &[
     ("Divide's nullity: Bool categories", 5, "W[1,2]", "B{0}", "absent nullity=0"),
     ("Divide's nullity: no entries", 5, "absent", "Frange", "absent nullity=0"),
     ("Divide's nullity: right absent", 5, "W[1,2]", "absent", "absent nullity=1"),
+];
+
+/// Subtract of two ranges of one kind (document 02, S-4).
+#[rustfmt::skip] // one case a line
+const DIFFERENCES: &[Row] = &[
+    ("Subtract [0,1],[0,5]", 3, "W[0,1]", "W[0,5]", "W[-5,1] node=11 ordered=1"),
+    ("Subtract [3,8],[1,2]", 3, "W[3,8]", "W[1,2]", "W[1,7]"),
+    ("Subtract: left's lower absent", 3, "W[_,9]", "W[2,3]", "W[_,7]"),
+    ("Subtract: left's upper absent", 3, "W[4,_]", "W[2,3]", "W[1,_]"),
+    ("Subtract: right's lower absent", 3, "W[4,9]", "W[_,3]", "W[1,_]"),
+    ("Subtract: right's upper absent", 3, "W[4,9]", "W[2,_]", "W[_,7]"),
+    ("Subtract: right's ends absent", 3, "W[1,5]", "W[_,_]", "W[_,_]"),
+    ("Subtract: both leave 64 bits", 3, "W[0,0]", "W[-9223372036854775808,-9223372036854775808]", "24"),
+    ("Subtract: the upper leaves 64 bits", 3, "W[-1,4]", "W[-9223372036854775808,3]", "24"),
+    ("Subtract: the lower leaves 64 bits", 3, "W[-2,9223372036854775807]", "W[-1,9223372036854775807]", "24"),
+    ("Subtract: uppers alone", 3, "W[_,9223372036854775807]", "W[_,-1]", "W[_,_]"),
+    ("Subtract: an upper and a lower", 3, "W[_,9223372036854775807]", "W[-1,_]", "24"),
+    ("Subtract: -2^63 is not negated", 3, "W[-5,-2]", "W[-9223372036854775808,-9223372036854775808]", "W[9223372036854775803,9223372036854775806]"),
+    ("Subtract: the least difference", 3, "W[-9223372036854775807,0]", "W[0,1]", "W[-9223372036854775808,0]"),
+    ("Subtract: the sign of a zero", 3, "F[-0.0,1.0]", "F[-0.0,0.0]", "F[-0.0,1.0]"),
+    ("Subtract: each end is rounded once", 3, "F[0.3,0.4]", "F[0.1,0.2]", "F[0.09999999999999998,0.30000000000000004]"),
+    ("Subtract: a float end may be infinite", 3, "F[-1.7e308,1.0]", "F[0.0,1.7e308]", "F[-inf,1.0]"),
+    ("Subtract: float ends that are absent", 3, "F[_,9.0]", "F[2.0,_]", "F[_,7.0]"),
+    ("Subtract: one entry goes with both columns", 3, "W[0,1][5,6] columns=2", "W[1,2]", "W[-2,0][3,5] columns=2"),
+    ("Subtract: three entries over one column", 3, "W[1,2]*3", "W[1,2]", "18"),
+    ("Subtract: 18 before 24", 3, "W[0,0] columns=2", "W[-9223372036854775808,0]*3 columns=2", "18"),
+    ("Subtract: whole ranges of type Str", 3, "W[0,1] type=Str", "W[0,5] type=Str", "W[-5,1] type=Str"),
+    ("Subtract: nullity either, not empty both", 3, "W[1,2] nullity=1", "W[1,2] notempty=0", "W[-1,1] nullity=1 notempty=0"),
 ];
 
 /// Pool (document 02, S-1).
@@ -697,7 +742,8 @@ const OUTPUTS: &[OutputRow] = &[
 
 #[cfg(test)]
 mod tests {
-    use super::{all, Case};
+    use super::{all, differences, Case};
+    use crate::form::{is_range_subtract, Call};
     use crate::sheet::Sheet;
     use std::collections::HashSet;
 
@@ -723,6 +769,23 @@ mod tests {
             refused += expected.is_some() as usize;
         }
         assert!(refused > 50);
+    }
+
+    /// They reach the ends, and no other case does.
+    #[test]
+    fn range_subtracts_stand_by_themselves() {
+        let reaches = |case: &Case| {
+            let Call {
+                component,
+                left,
+                right,
+                ..
+            } = &case.call;
+            let code = case.expected.parse().unwrap_or(0);
+            is_range_subtract(*component, left, right, code)
+        };
+        assert!(differences().iter().all(reaches));
+        assert!(!all().iter().any(reaches));
     }
 
     #[test]

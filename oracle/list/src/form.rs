@@ -5,6 +5,19 @@ use std::fmt;
 
 /// The component that document 02 adds; the original has none such.
 pub const POOL: u32 = 10;
+/// The component to whose ranges document 02 gives other ends than the original.
+pub const SUBTRACT: u32 = 3;
+
+/// Whether a call is a range Subtract, which leaves the oracle runs (document 02,
+/// S-4): "Range Subtract is held against this rule instead of the Rust". That is
+/// Subtract of two whole or of two float ranges, unless `code`, its answer, is of
+/// a check up to 17: those come before the ends, and the original's word on them
+/// stands. Behind 3 to 5, byte 6 is a sheet's nature.
+pub fn is_range_subtract(component: u32, left: &[u8], right: &[u8], code: u32) -> bool {
+    let natures = (left.get(6), right.get(6));
+    let ranges = matches!(natures, (Some(1), Some(1)) | (Some(2), Some(2)));
+    component == SUBTRACT && ranges && !(2..=17).contains(&code)
+}
 
 /// Whose word an answer is.
 #[derive(Clone, Copy, Debug, PartialEq, Eq)]
@@ -95,6 +108,12 @@ impl fmt::Display for Line {
 }
 
 impl Line {
+    /// See [`is_range_subtract`].
+    pub fn is_range_subtract(&self) -> bool {
+        let Line { call, answer } = self;
+        is_range_subtract(call.component, &call.left, &call.right, answer.code)
+    }
+
     pub fn parse(text: &str) -> Result<Line, String> {
         let fields: Vec<&str> = text.split(' ').collect();
         let [_, _, _, _, _, code, result, mark] = fields[..] else {

@@ -13,7 +13,8 @@ use numbers::Taste;
 pub use disturb::AIMS;
 
 /// A call of the nine, or of a bad component, with room for every result; the
-/// caller sets `out_len`.
+/// caller sets `out_len`. Range Subtracts are among them: who asks the original
+/// draws again.
 pub fn call(random: &mut Random) -> Call {
     if random.percent(2) {
         return bad_component(random);

@@ -207,8 +207,7 @@ impl Sheet {
         Ok(sheet)
     }
 
-    /// Reads a sheet by 3 and 4 alone: a derived one may have crossed or
-    /// infinite ends.
+    /// Reads a sheet by 3 and 4 alone: a derived one may have infinite ends.
     pub fn decode_unordered(bytes: &[u8]) -> Result<Sheet, u32> {
         let sizes = Sizes::read(bytes)?;
         read_fields(bytes, &sizes)

@@ -1,6 +1,6 @@
 //! What a list holds, and whether it holds enough.
 
-use crate::form::{Call, Line, Mark, POOL};
+use crate::form::{Call, Line, Mark, POOL, SUBTRACT};
 use crate::sheet::TEXT;
 use std::collections::{BTreeMap, HashMap, HashSet};
 use std::fmt::Write;
@@ -17,21 +17,29 @@ const LEAST_REFUSED: usize = 5;
 const LEAST_EXACT: usize = 200;
 const LEAST_SHORT: usize = 27;
 const LEAST_TEXTS: usize = 40;
+/// Of Subtract: accepted differences of categories, and ranges of one kind that a
+/// check before 17 refuses.
+const LEAST_DIFFERENCES: usize = 80;
+const LEAST_RANGES: usize = 50;
 /// What calls with texts are wanted to be refused with.
 const TEXT_CODES: [u32; 9] = [3, 4, 15, 19, 20, 21, 22, 26, 28];
 
 /// Whether a threshold is met, and what to say if not.
 type Want = (bool, String);
 
-/// The refusals a component can give in a single call. 25 is in none of them:
-/// categories never get past 15 under Int Power.
+/// The refusals a component can give in an oracle run. 25 is in none of them:
+/// categories never get past 15 under Int Power. Subtract's 18 is the range
+/// Subtract's alone, and leaves the runs with it.
 pub fn reachable(component: u32) -> &'static [u32] {
     match component {
         1 | 9 => &[3, 4, 5, 6, 11, 18, 19, 20, 22, 24, 26, 27],
         2 => &[
             3, 4, 5, 6, 7, 8, 9, 10, 11, 12, 13, 14, 17, 18, 19, 20, 21, 22, 24, 26, 27, 28,
         ],
-        3 | 4 => &[
+        SUBTRACT => &[
+            3, 4, 5, 6, 7, 8, 9, 10, 11, 12, 13, 14, 17, 19, 20, 21, 22, 24, 26, 27,
+        ],
+        4 => &[
             3, 4, 5, 6, 7, 8, 9, 10, 11, 12, 13, 14, 17, 18, 19, 20, 21, 22, 24, 26, 27,
         ],
         5 => &[
@@ -71,6 +79,18 @@ pub struct Stats {
     natures: BTreeMap<(u8, u8), usize>,
     /// Calls that read a sheet with texts, by code.
     texts: BTreeMap<u32, usize>,
+    subtracts: Subtracts,
+}
+
+/// Calls of Subtract.
+#[derive(Default)]
+struct Subtracts {
+    /// That document 02 holds against its own rule: there must be none.
+    ranges: usize,
+    /// Of two ranges of one kind, refused with 6 to 14.
+    refused: usize,
+    /// Accepted, of whole categories.
+    lists: usize,
 }
 
 /// The row of the table a component stands in.
@@ -96,6 +116,7 @@ impl Stats {
             lengths: [0; 6],
             natures: BTreeMap::new(),
             texts: BTreeMap::new(),
+            subtracts: Subtracts::default(),
         };
         for line in lines {
             stats.count(line);
@@ -131,6 +152,12 @@ impl Stats {
         if answer.code == 0 {
             *self.natures.entry(natures).or_default() += 1;
         }
+        self.subtracts.ranges += usize::from(line.is_range_subtract());
+        match (call.component, natures, answer.code) {
+            (SUBTRACT, (1, 1) | (2, 2), 6..=14) => self.subtracts.refused += 1,
+            (SUBTRACT, (3, 3), 0) => self.subtracts.lists += 1,
+            _ => (),
+        }
     }
 
     fn cell(&self, component: u32, code: u32) -> usize {
@@ -143,6 +170,7 @@ impl Stats {
         wants.extend(self.cell_wants());
         wants.extend(self.output_wants());
         wants.extend(self.text_wants());
+        wants.extend(self.subtract_wants());
         let missed = wants.into_iter().filter(|(holds, _)| !holds);
         missed.map(|(_, text)| text).collect()
     }
@@ -211,6 +239,26 @@ impl Stats {
         wants
     }
 
+    /// No range Subtract, and enough of what is left of Subtract.
+    fn subtract_wants(&self) -> Vec<Want> {
+        let Subtracts {
+            ranges,
+            refused,
+            lists,
+        } = self.subtracts;
+        vec![
+            (ranges == 0, format!("{ranges} range Subtracts, wanted none")),
+            (
+                refused >= LEAST_RANGES,
+                format!("ranges under Subtract are refused before 17 {refused} times, wanted {LEAST_RANGES}"),
+            ),
+            (
+                lists >= LEAST_DIFFERENCES,
+                format!("{lists} differences of categories, wanted {LEAST_DIFFERENCES}"),
+            ),
+        ]
+    }
+
     /// The table of components and codes, and what stands beside it.
     pub fn table(&self) -> String {
         let codes = [0].into_iter().chain(2..=28).filter(|code| *code != 25);
@@ -273,7 +321,11 @@ impl Stats {
         for (code, count) in &self.texts {
             let _ = write!(text, " {code}:{count}");
         }
-        text.push('\n');
+        let _ = writeln!(
+            text,
+            "\nSubtract: {} differences of categories, {} pairs of ranges refused before 17, {} range Subtracts",
+            self.subtracts.lists, self.subtracts.refused, self.subtracts.ranges
+        );
         text
     }
 }
@@ -325,4 +377,45 @@ pub fn run(list: &str, check: bool) -> Result<(String, bool), String> {
     }
     let _ = writeln!(text, "check: {} thresholds missed", misses.len());
     Ok((text, misses.is_empty()))
+}
+
+#[cfg(test)]
+mod tests {
+    use super::Stats;
+    use crate::form::{Answer, Call, Line, Mark};
+    use crate::sheet::LONGEST;
+    use crate::text;
+
+    fn line(component: u32, left: &str, right: &str, code: u32) -> Line {
+        let call = Call {
+            component,
+            node: 1,
+            left: text::bytes(left),
+            right: text::bytes(right),
+            out_len: LONGEST,
+        };
+        let answer = Answer {
+            code,
+            bytes: Vec::new(),
+            mark: Mark::Rust,
+        };
+        Line { call, answer }
+    }
+
+    #[test]
+    fn a_range_subtract_is_a_miss() {
+        let named = |miss: &String| miss.ends_with("range Subtracts, wanted none");
+        let misses = |line: Line| Stats::of(&[line], 0).misses().iter().any(named);
+        for code in [0, 18, 24, 27] {
+            assert!(misses(line(3, "W[1,2]", "W[1,2]", code)));
+            assert!(misses(line(3, "F[1.0,2.0]", "F[1.0,2.0]", code)));
+            assert!(!misses(line(2, "W[1,2]", "W[1,2]", code)));
+            assert!(!misses(line(3, "W{1}", "W[1,2]", code)));
+        }
+        for code in 2..=17 {
+            assert!(!misses(line(3, "W[1,2]", "W[1,2]", code)));
+        }
+        assert!(!misses(line(3, "W[1,2]", "F[1.0,2.0]", 0)));
+        assert!(!misses(line(3, "empty", "W[1,2]", 24)));
+    }
 }

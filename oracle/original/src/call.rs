@@ -6,7 +6,7 @@ use crate::messages::{self, BASE_BREAKS, OVERFLOWS};
 use crate::root::value;
 use crate::stand_ins::{proto, Component};
 use indexmap::map::IndexMap;
-use oracle_list::form::{hex, Answer, Mark, POOL};
+use oracle_list::form::{hex, is_range_subtract, Answer, Mark, POOL};
 use oracle_list::sheet::{Nature, Sheet, MOST_CATEGORIES, MOST_TEXT};
 use std::cell::Cell;
 use std::panic::{catch_unwind, set_hook, take_hook, AssertUnwindSafe};
@@ -18,26 +18,50 @@ const LOG: u32 = 7;
 /// 25 is the original's own; this function adds 2 to 5 before, 26, 28 and 27 after.
 ///
 /// # Panics
-/// If the original ends in a way that has no number, and on permitted sheets
-/// that it has no place for: both of Pool's, and texts that are no UTF-8.
-/// Nothing of it must pass for an answer.
+/// If the original ends in a way that has no number, on permitted sheets that it
+/// has no place for, which are both of Pool's and texts that are no UTF-8, and on
+/// a range Subtract. Nothing of it must pass for an answer.
 pub fn answer(component: u32, node: u32, left: &[u8], right: &[u8], out_len: usize) -> Answer {
-    match accept(component, node, left, right) {
+    asked(component, node, left, right, out_len).unwrap_or_else(|| {
+        let why = "range Subtract is held against document 02";
+        fail(why, component, node, left, right)
+    })
+}
+
+/// The same, with nothing for a range Subtract: what the original says of its ends
+/// is no answer.
+pub fn asked(
+    component: u32,
+    node: u32,
+    left: &[u8],
+    right: &[u8],
+    out_len: usize,
+) -> Option<Answer> {
+    let answer = match accept(component, node, left, right) {
         Err(refusal) => refusal,
-        Ok(sheet) if sheet.nature.categories() > MOST_CATEGORIES => refuse(26, Mark::Added),
-        Ok(sheet) if sheet.nature.text_length() > MOST_TEXT => refuse(28, Mark::Added),
-        Ok(sheet) => {
-            let bytes = sheet.encode();
-            if bytes.len() > out_len {
-                return refuse(27, Mark::Added);
-            }
-            let mark = Mark::Rust;
-            Answer {
-                code: 0,
-                bytes,
-                mark,
-            }
-        }
+        Ok(sheet) => written(&sheet, out_len),
+    };
+    let other_ends = is_range_subtract(component, left, right, answer.code);
+    (!other_ends).then_some(answer)
+}
+
+/// 26, 28 and 27 of a derived sheet, or its bytes.
+fn written(sheet: &Sheet, out_len: usize) -> Answer {
+    if sheet.nature.categories() > MOST_CATEGORIES {
+        return refuse(26, Mark::Added);
+    }
+    if sheet.nature.text_length() > MOST_TEXT {
+        return refuse(28, Mark::Added);
+    }
+    let bytes = sheet.encode();
+    if bytes.len() > out_len {
+        return refuse(27, Mark::Added);
+    }
+    let mark = Mark::Rust;
+    Answer {
+        code: 0,
+        bytes,
+        mark,
     }
 }
 
@@ -52,23 +76,23 @@ fn accept(component: u32, node: u32, left: &[u8], right: &[u8]) -> Result<Sheet,
         return Err(refuse(2, Mark::Added));
     }
     let decode = |bytes| Sheet::decode(bytes).map_err(|code| refuse(code, Mark::Added));
-    let left = decode(left)?;
-    let right = match component {
+    let data = decode(left)?;
+    let other = match component {
         1 | 9 => None,
         _ => Some(decode(right)?),
     };
-    if let Some(why) = outside(component, &left, right.as_ref()) {
-        fail(why, component, node, &left, right.as_ref());
+    if let Some(why) = outside(component, &data, other.as_ref()) {
+        fail(why, component, node, left, right);
     }
-    let word = run(component, node, &left, right.as_ref());
-    if component == LOG && both_whole(&left, right.as_ref()) && past_the_base(&word) {
+    let word = run(component, node, &data, other.as_ref());
+    if component == LOG && both_whole(&data, other.as_ref()) && past_the_base(&word) {
         return Err(refuse(15, Mark::Decided));
     }
     match word {
         Word::Derived(sheet) => Ok(sheet),
         Word::Refused(code, _) => Err(refuse(code, Mark::Rust)),
         Word::Overflowed => Err(refuse(24, Mark::Added)),
-        Word::Fault(text) => fail(&text, component, node, &left, right.as_ref()),
+        Word::Fault(text) => fail(&text, component, node, left, right),
     }
 }
 
@@ -81,9 +105,8 @@ fn outside(component: u32, left: &Sheet, right: Option<&Sheet>) -> Option<&'stat
     (!utf8).then_some("a text is no UTF-8")
 }
 
-fn fail(text: &str, component: u32, node: u32, left: &Sheet, right: Option<&Sheet>) -> ! {
-    let left = hex(&left.encode());
-    let right = hex(&right.map_or_else(Vec::new, Sheet::encode));
+fn fail(text: &str, component: u32, node: u32, left: &[u8], right: &[u8]) -> ! {
+    let (left, right) = (hex(left), hex(right));
     panic!(
         "oracle failure: {}; the call: {} {} {} {}",
         text, component, node, left, right

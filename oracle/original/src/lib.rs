@@ -1,8 +1,9 @@
 //! The original text of the nine components, built unchanged, behind the
 //! bytes and numbers of document 01.
 //!
-//! [`answer`] is the one entry: it decodes the sheets, calls the component's
-//! own `propagate_property`, and turns what it says into a number and bytes.
+//! [`answer`] is the entry: it decodes the sheets, calls the component's own
+//! `propagate_property`, and turns what it says into a number and bytes.
+//! [`asked`] does the same and passes over what the original is not asked about.
 
 // The original's own setting: its error macro recurses deeply.
 #![recursion_limit = "1024"]
@@ -19,7 +20,7 @@ pub mod messages;
 pub mod select;
 mod stand_ins;
 
-pub use call::answer;
+pub use call::{answer, asked};
 use root::{errors, Float, Integer, Warnable};
 use stand_ins::proto;
 

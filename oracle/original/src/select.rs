@@ -1,9 +1,9 @@
 //! Makes the stored list: the named cases, then seeded calls until every
 //! component has enough of every answer it can give.
 
-use crate::answer;
+use crate::{answer, asked};
 use oracle_list::cases;
-use oracle_list::form::{Answer, Call, Line, Mark};
+use oracle_list::form::{Answer, Call, Line, Mark, SUBTRACT};
 use oracle_list::generate::{bad_component, call, call_for, call_towards, AIMS};
 use oracle_list::random::Random;
 use oracle_list::sheet::LONGEST;
@@ -34,6 +34,28 @@ pub fn fresh(call: Call) -> Line {
         call.out_len,
     );
     Line { call, answer }
+}
+
+/// A drawn call with its answer; nothing for a range Subtract, which is to be
+/// drawn again.
+pub fn perhaps_fresh(call: Call) -> Option<Line> {
+    let answer = asked(
+        call.component,
+        call.node,
+        &call.left,
+        &call.right,
+        call.out_len,
+    )?;
+    Some(Line { call, answer })
+}
+
+/// The next of the generator's calls that the original is asked about.
+pub fn drawn(random: &mut Random) -> Line {
+    loop {
+        if let Some(line) = perhaps_fresh(call(random)) {
+            return line;
+        }
+    }
 }
 
 /// Writes the list that a seed makes.
@@ -75,7 +97,7 @@ fn write_head(seed: u64, out: &mut impl Write) -> io::Result<()> {
 pub fn write_generated(seed: u64, count: u64, out: &mut impl Write) -> io::Result<()> {
     let mut random = Random::new(seed);
     for _ in 0..count {
-        let mut line = fresh(call(&mut random));
+        let mut line = drawn(&mut random);
         line.call.out_len = out_len(&mut random, &line.answer);
         if line.answer.code == 0 && random.percent(5) {
             line.call.out_len = short(&mut random, line.answer.bytes.len());
@@ -197,7 +219,9 @@ impl Selection {
             if idle % PATIENCE == 0 {
                 slack += 1;
             }
-            let mut line = fresh(draw(&mut self.random));
+            let Some(mut line) = perhaps_fresh(draw(&mut self.random)) else {
+                continue;
+            };
             if !suits(&line) || !self.has_room(&line, slack) {
                 continue;
             }
@@ -218,6 +242,8 @@ impl Selection {
         let taken = self.spread.get(&key).copied().unwrap_or(0);
         let room = match (key.1, key.2, key.3) {
             (0, 1, 1) | (0, 2, 2) | (0, 1, 9) | (0, 2, 9) => 40,
+            // What is left of Subtract, its ranges gone.
+            (0, 3, 3) if key.0 == SUBTRACT => 90,
             (0, 3, 3) | (0, 3, 9) => 35,
             (0, 6, 6) => 40,
             (28, ..) => REFUSED,

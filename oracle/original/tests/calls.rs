@@ -1,14 +1,14 @@
 //! The oracle as a whole: named cases, seeded calls, the decided difference.
 
 use oracle_list::cases;
-use oracle_list::form::{Call, Mark, POOL};
-use oracle_list::generate::call;
+use oracle_list::form::{Call, Mark, POOL, SUBTRACT};
+use oracle_list::generate::call_of;
 use oracle_list::random::Random;
 use oracle_list::sheet::{Sheet, LONGEST};
 use oracle_list::stats::reachable;
 use oracle_list::text::bytes;
-use oracle_original::answer;
-use oracle_original::select::fresh;
+use oracle_original::select::{drawn, fresh, perhaps_fresh};
+use oracle_original::{answer, asked};
 
 #[test]
 fn named_cases_answer_as_expected() {
@@ -28,7 +28,7 @@ fn named_cases_answer_as_expected() {
 fn seeded_calls_give_sheets() {
     let mut random = Random::new(5);
     for _ in 0..20_000 {
-        let line = fresh(call(&mut random));
+        let line = drawn(&mut random);
         let code = line.answer.code;
         if code == 0 {
             let sheet = Sheet::decode_unordered(&line.answer.bytes);
@@ -46,7 +46,7 @@ fn seeded_calls_give_sheets() {
 fn outputs_are_exact() {
     let mut random = Random::new(6);
     for _ in 0..5_000 {
-        let mut line = fresh(call(&mut random));
+        let mut line = drawn(&mut random);
         let Call { out_len, .. } = &mut line.call;
         *out_len = line.answer.bytes.len();
         assert_eq!(fresh(line.call.clone()), line);
@@ -96,6 +96,61 @@ fn pool_is_not_answered() {
     assert!(text.starts_with("oracle failure: the original has no Pool; the call: 10 1 "));
 }
 
+/// Ranges under Subtract are answered up to 17; their ends are document 02's.
+#[test]
+fn range_subtract_is_not_answered() {
+    let code = |left, right| {
+        let answer = asked(SUBTRACT, 1, &bytes(left), &bytes(right), LONGEST);
+        answer.map(|answer| answer.code)
+    };
+    assert_eq!(code("W[1,2]", "W[2,1]"), Some(5));
+    let private = "W[1,2] releasable=0 groups=1:i1";
+    assert_eq!(code(private, "W[1,2] releasable=0"), Some(8));
+    assert_eq!(code("W[1,2]*3", "W[1,2] type=Float"), Some(14));
+    assert_eq!(code("W[1,2]*3", "F[1.0,2.0]"), Some(17));
+    assert_eq!(code("W[1,2]", "W{1}"), Some(0));
+    assert_eq!(code("W{1}", "W{1}"), Some(0));
+    let least = "W[-9223372036854775808,0]";
+    for (left, right) in [
+        ("W[0,1]", "W[0,5]"),
+        ("F[0.0,1.0]", "F[0.0,5.0]"),
+        ("W[1,2]*3", "W[1,2]"),
+        (least, "W[1,1]"),
+        ("W[_,_]", "W[_,_]"),
+    ] {
+        assert_eq!(code(left, right), None, "{} - {}", left, right);
+    }
+    let short = asked(SUBTRACT, 1, &bytes("W[0,1]"), &bytes("W[0,5]"), 0);
+    assert_eq!(short, None);
+    let call = || answer(SUBTRACT, 1, &bytes("W[0,1]"), &bytes("W[0,5]"), LONGEST);
+    let payload = std::panic::catch_unwind(call).expect_err("no answer");
+    let text = payload.downcast_ref::<String>().expect("a text");
+    assert!(text
+        .starts_with("oracle failure: range Subtract is held against document 02; the call: 3 1 "));
+}
+
+/// What leaves the runs is Subtract's of two ranges of one kind alone.
+#[test]
+fn no_other_call_is_passed_over() {
+    let mut random = Random::new(8);
+    let mut kept = [0; 2];
+    for component in 1..=9 {
+        for _ in 0..1000 {
+            let call = call_of(&mut random, component);
+            let natures = (call.left.get(6).copied(), call.right.get(6).copied());
+            let line = perhaps_fresh(call);
+            assert!(line.is_some() || component == SUBTRACT);
+            if component == SUBTRACT {
+                kept[usize::from(line.is_some())] += 1;
+            }
+            if let (None, (left, right)) = (line, natures) {
+                assert!(left == right && (left == Some(1) || left == Some(2)));
+            }
+        }
+    }
+    assert!(kept[0] > 200 && kept[1] > 400, "{:?}", kept);
+}
+
 /// Texts that are no UTF-8 are checked as all are, and have no answer behind that.
 #[test]
 fn other_bytes_are_not_answered() {
@@ -136,14 +191,12 @@ fn overflows_are_told_apart() {
     let most = "W[9223372036854775807,9223372036854775807]";
     let least = "W[-9223372036854775808,0]";
     assert_eq!(mark(2, most, "W[1,1]"), (24, Mark::Rust));
-    assert_eq!(mark(3, least, "W[1,1]"), (24, Mark::Rust));
+    let least_list = "W{-9223372036854775808}";
+    assert_eq!(mark(3, least_list, "W{1}"), (24, Mark::Rust));
     assert_eq!(mark(5, "W{1}", "W{0}"), (24, Mark::Rust));
     assert_eq!(mark(4, most, "W[2,2]"), (24, Mark::Added));
     assert_eq!(mark(5, least, "W[-1,-1]"), (24, Mark::Added));
     assert_eq!(mark(1, most, "empty"), (24, Mark::Added));
     assert_eq!(mark(9, least, "empty"), (24, Mark::Added));
-    assert_eq!(
-        mark(1, "W{-9223372036854775808}", "empty"),
-        (24, Mark::Added)
-    );
+    assert_eq!(mark(1, least_list, "empty"), (24, Mark::Added));
 }
