@@ -43,7 +43,7 @@ fn show(name: &str, fault: &str, call: &Request, wanted: &Expected) -> String {
 }
 
 /// Generated calls, answered by the proved library, the port and the oracle;
-/// Pool's, and those with texts that are no UTF-8, by the first two.
+/// Pool's, those with texts that are no UTF-8 and range Subtracts by the first two.
 pub fn generated(seed: u64, count: usize) -> Tally {
     let mut random = Random::new(seed);
     let (mut guard, mut tally) = (Guard::default(), Tally::default());
@@ -72,6 +72,8 @@ fn count(tally: &mut Tally, call: &Request, wanted: &Expected) {
     tally.count(wanted.code);
     let read = (call.component, call.left, call.right);
     tally.count_texts(read, wanted.code, &wanted.bytes);
+    tally.count_subtract(read, wanted.code, &wanted.bytes);
+    tally.count_range(call.component, &wanted.bytes);
     if call.component == POOL {
         tally.count_pool(wanted.code, &wanted.bytes);
     }
@@ -260,16 +262,26 @@ mod tests {
             "{tally}"
         );
         assert!(texts.long_joins > 2 && texts.long_unions > 1, "{tally}");
+        for code in [0, 18, 24, 27] {
+            assert!(tally.of_subtract(code) > 0, "no {code} of ranges: {tally}");
+        }
+        let results = tally.subtracted();
+        assert!(results.iter().all(|count| *count > 20), "{tally}");
+        let ranges = tally.ranges();
+        assert!(ranges.of.iter().all(|count| *count > 20), "{tally}");
+        assert!(ranges.infinite > 2, "{tally}");
         assert!(
             tally.of(0) > 400 && tally.of(3) > 100 && tally.of(4) > 100 && tally.of(27) > 20,
             "{tally}"
         );
     }
 
-    /// The named cases that no oracle answers: Pool's, and texts of any bytes.
+    /// The named cases that no oracle answers: Pool's, texts of any bytes, and range
+    /// Subtracts.
     #[test]
     fn cases_without_an_oracle_answer_as_expected() {
-        for case in cases::pool().into_iter().chain(cases::raw()) {
+        let others = cases::raw().into_iter().chain(cases::differences());
+        for case in cases::pool().into_iter().chain(others) {
             for (name, answer) in SINGLES {
                 let call = &case.call;
                 let mut bytes = vec![FILLER; call.out_len];

@@ -7,7 +7,7 @@ mod leaves;
 use crate::exact::{Exact, TooLong};
 use crate::plans::{self, is_unary, Draft, Step, MOST_NODES, PLANS, SLOT};
 use crate::tally::Tally;
-use oracle_list::form::{hex, POOL};
+use oracle_list::form::{hex, POOL, SUBTRACT};
 use oracle_list::random::Random;
 use oracle_list::sheet::{Nature, Sheet};
 use oracle_list::stats::NAMES;
@@ -50,6 +50,11 @@ pub struct Counts {
     /// the other side.
     pub sides: [usize; 2],
     pub apart: usize,
+    /// Steps of Subtract over two ranges, and their results: in all, at the lower
+    /// end, at the upper end.
+    pub subtracts: usize,
+    pub subtracted: usize,
+    pub reached: [usize; 2],
     /// Log on operands that meet the premises, refused as it has to be.
     pub log_refused: usize,
 }
@@ -77,6 +82,12 @@ impl fmt::Display for Counts {
             "Pool steps in rows: {left} took left, {right} right; {} had another result on the other side",
             self.apart
         )?;
+        let [lowers, uppers] = self.reached;
+        writeln!(
+            f,
+            "range Subtract: {} steps; of {} results {lowers} are the lower end, {uppers} the upper",
+            self.subtracts, self.subtracted
+        )?;
         write!(
             f,
             "{} rows ({} with a number beyond 64 bits) and {} given up as too long; {} results held against {} present ends and {} lists",
@@ -97,6 +108,7 @@ pub fn generated(seed: u64, count: usize) -> Counts {
         counts.tally.count(0);
         for (step, sheet) in draft.steps.iter().zip(&sheets[draft.leaves.len()..]) {
             counts.steps[step.component as usize - 1] += 1;
+            counts.subtracts += usize::from(is_difference(step, sheet));
             counts.natures[match sheet.nature {
                 Nature::Absent => 0,
                 Nature::WholeRange(_) | Nature::FloatRange(_) => 1,
@@ -190,7 +202,12 @@ fn sheet_at(slot: &[u8]) -> Option<Sheet> {
     Sheet::decode_unordered(slot.get(..80 + 13 * size(0) + tail + area)?).ok()
 }
 
-/// The premises of demand 3, over the sheets.
+/// Whether a step is a range Subtract: nothing else under Subtract gives a range.
+fn is_difference(step: &Step, sheet: &Sheet) -> bool {
+    step.component == SUBTRACT && matches!(sheet.nature, Nature::WholeRange(_))
+}
+
+/// The premises of demand 3, over the sheets. None is on Subtract (document 02, S-4).
 pub fn premises(leaves: usize, steps: &[Step], sheets: &[Sheet]) -> bool {
     sheets[..leaves].iter().all(leaf_fits)
         && steps
@@ -211,11 +228,8 @@ fn step_fits(component: u32, left: &Sheet, right: &Sheet) -> bool {
     let (Some(l), Some(r)) = (left.columns, right.columns) else {
         return false;
     };
-    let range =
-        |sheet: &Sheet| matches!(sheet.nature, Nature::WholeRange(_) | Nature::FloatRange(_));
     (l == r || l == 1 || r == 1)
         && match component {
-            3 => !(range(left) && range(right)),
             5 => (0..r as usize).all(|column| without_zero(right, column)),
             8 => left.data_type == INT && right.data_type == INT,
             _ => true,
@@ -268,18 +282,48 @@ pub fn violation(
         }
         results.push(of_node);
     }
-    for (node, (sheet, columns)) in sheets.iter().zip(&results).enumerate() {
+    Ok(departure(steps, sheets, &results, counts))
+}
+
+/// The first result that leaves what its node's sheet states.
+fn departure(
+    steps: &[Step],
+    sheets: &[Sheet],
+    results: &[Vec<Exact>],
+    counts: &mut Counts,
+) -> Option<String> {
+    let leaves = sheets.len() - steps.len();
+    for (node, (sheet, columns)) in sheets.iter().zip(results).enumerate() {
+        let step = node.checked_sub(leaves).map(|index| &steps[index]);
+        if step.is_some_and(|step| is_difference(step, sheet)) {
+            count_ends(sheet, columns, counts);
+        }
         for (column, value) in columns.iter().enumerate() {
             counts.results += 1;
             if !keeps(sheet, column, value, counts) {
                 let nature = &sheet.nature;
-                return Ok(Some(format!(
+                return Some(format!(
                     "node {node} column {column}: {value:?} leaves {nature:?}"
-                )));
+                ));
             }
         }
     }
-    Ok(None)
+    None
+}
+
+/// Counts a step's results, and those that are an end of its sheet's.
+fn count_ends(sheet: &Sheet, columns: &[Exact], counts: &mut Counts) {
+    let Nature::WholeRange(entries) = &sheet.nature else {
+        return;
+    };
+    for (column, value) in columns.iter().enumerate() {
+        let (lower, upper) = stated(entries, column).copied().unwrap_or_default();
+        counts.subtracted += 1;
+        for (count, end) in counts.reached.iter_mut().zip([lower, upper]) {
+            let end = end.map(|end| Exact::Small(i128::from(end)));
+            *count += usize::from(end.as_ref() == Some(value));
+        }
+    }
 }
 
 /// A step's result in a column; an operand without that column leaves none.
@@ -304,7 +348,7 @@ fn exact(component: u32, left: &Exact, right: &Exact) -> Result<Option<Exact>, T
     let value = match component {
         1 => Some(left.magnitude()),
         2 => Some(left.plus(right)),
-        3 => Some(left.minus(right)),
+        SUBTRACT => Some(left.minus(right)),
         4 => Some(left.times(right)),
         5 => left.quotient(right),
         6 => left.remainder(right),
@@ -431,6 +475,8 @@ mod tests {
         );
         let [left, right] = counts.sides;
         assert!(left.min(right).min(counts.apart) > 1000, "{counts}");
+        let [lower, upper] = counts.reached;
+        assert!(counts.subtracts > 150 && lower.min(upper) > 200, "{counts}");
     }
 
     /// The sheets of an accepted plan of two leaves and one step, and the step.
@@ -455,12 +501,17 @@ mod tests {
     /// Whether such a plan meets the premises, and whether it holds for a row.
     fn holds(component: u32, left: &str, right: &str, row: [i128; 2]) -> (bool, bool) {
         let (sheets, steps) = walked(component, left, right);
-        let row = Row {
-            numbers: row.map(|value| vec![Exact::Small(value)]).to_vec(),
-            sides: vec![Side::Left],
-        };
-        let fault = violation(&steps, &sheets, row, &mut Counts::default());
+        let fault = violation(&steps, &sheets, one_column(&row), &mut Counts::default());
         (premises(2, &steps, &sheets), fault == Ok(None))
+    }
+
+    /// A row of leaves of one column, for one step.
+    fn one_column(numbers: &[i128]) -> Row {
+        let number = |number: &i128| vec![Exact::Small(*number)];
+        Row {
+            numbers: numbers.iter().map(number).collect(),
+            sides: vec![Side::Left],
+        }
     }
 
     /// A row of two columns: whether it keeps to the sheets as they are, and to
@@ -517,10 +568,49 @@ mod tests {
         assert!(premises(2, &used, &sheets));
     }
 
+    /// Subtract joins ranges; a row that leaves the ends that the original would
+    /// state is seen, at each end.
+    #[test]
+    fn differences_of_ranges_are_contained() {
+        assert_eq!(holds(SUBTRACT, "W[_,0]", "W[_,0]", [0, -1]), (true, true));
+        let (mut sheets, steps) = walked(SUBTRACT, "W[3,8]", "W[1,2]");
+        assert!(premises(2, &steps, &sheets));
+        let keeps = |sheets: &[Sheet], row: [i128; 2], counts: &mut Counts| {
+            violation(&steps, sheets, one_column(&row), counts) == Ok(None)
+        };
+        let mut counts = Counts::default();
+        for row in [[3, 2], [8, 1], [8, 2]] {
+            assert!(keeps(&sheets, row, &mut counts));
+        }
+        assert_eq!((counts.subtracted, counts.reached), (3, [1, 1]));
+        sheets[2].nature = text::sheet("W[2,6]").nature;
+        assert!(!keeps(&sheets, [3, 2], &mut counts));
+        assert!(!keeps(&sheets, [8, 1], &mut counts));
+        assert!(keeps(&sheets, [8, 2], &mut counts));
+    }
+
+    /// One leaf less itself: the sheet reads two numbers where the row has one.
+    #[test]
+    fn a_leaf_less_itself_is_contained() {
+        let mut draft = Draft::new(vec![text::bytes("W[0,1]")]);
+        draft.steps.push(Step {
+            component: SUBTRACT,
+            left: 0,
+            right: 0,
+        });
+        let mut counts = Counts::default();
+        let sheets = run(&draft, &mut counts).expect("an accepted plan");
+        assert_eq!(sheets[1].nature, text::sheet("W[-1,1]").nature);
+        for number in [0, 1] {
+            try_row(&draft, &sheets, one_column(&[number]), &mut counts);
+        }
+        assert_eq!((counts.tally.differences, counts.rows), (0, 2));
+        assert_eq!((counts.subtracted, counts.reached), (2, [0, 0]));
+    }
+
     /// Outside the premises there are counterexamples, and they are seen.
     #[test]
     fn counterexamples_are_seen() {
-        assert_eq!(holds(3, "W[_,0]", "W[_,0]", [0, -1]), (false, false));
         assert_eq!(holds(5, "W[1,10]", "W[0,5]", [10, 1]), (false, false));
         assert_eq!(holds(5, "W[_,_]", "W[_,_]", [1, 0]), (false, false));
         assert_eq!(

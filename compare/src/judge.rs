@@ -2,20 +2,36 @@
 
 use crate::guard::Expected;
 use crate::plans::is_unary;
-use oracle_list::form::POOL;
+use oracle_list::form::{hex, is_range_subtract, POOL};
 use oracle_list::sheet::{Sheet, LONGEST, TEXT};
 
 /// The original text's answer; the port's where the original has none, for Pool
-/// and for texts that are no UTF-8: there the library is held against the port
-/// alone.
+/// and for texts that are no UTF-8, and where it is not asked, for a range
+/// Subtract: there the library is held against the port alone.
+///
+/// # Panics
+/// If the port refuses a range Subtract by a check that the original passes.
 pub fn answer(component: u32, node: u32, left: &[u8], right: &[u8], out_len: usize) -> Expected {
     if component == POOL || has_other_texts(component, left, right) {
         return of_port(component, node, left, right, out_len);
     }
-    let answer = oracle_original::answer(component, node, left, right, out_len);
-    Expected {
-        code: answer.code,
-        bytes: answer.bytes,
+    match oracle_original::asked(component, node, left, right, out_len) {
+        Some(answer) => Expected {
+            code: answer.code,
+            bytes: answer.bytes,
+        },
+        None => {
+            let answer = of_port(component, node, left, right, out_len);
+            let goes_on = is_range_subtract(component, left, right, answer.code);
+            assert!(
+                goes_on,
+                "the port refuses with {} where the original comes to the ends: 3 {} {}",
+                answer.code,
+                hex(left),
+                hex(right)
+            );
+            answer
+        }
     }
 }
 
@@ -44,7 +60,21 @@ fn of_port(component: u32, node: u32, left: &[u8], right: &[u8], out_len: usize)
 #[cfg(test)]
 mod tests {
     use super::{answer, has_other_texts};
-    use oracle_list::text::bytes;
+    use oracle_list::sheet::Sheet;
+    use oracle_list::text::{bytes, sheet};
+
+    /// The ends are the port's, refusals up to 17 the original's.
+    #[test]
+    fn range_subtracts_are_the_ports() {
+        let subtract = |left, right| answer(3, 0, &bytes(left), &bytes(right), 200);
+        let difference = subtract("W[3,8]", "W[1,2]");
+        let found = Sheet::decode(&difference.bytes).map(|sheet| sheet.nature);
+        assert_eq!(found, Ok(sheet("W[1,7]").nature));
+        assert_eq!(subtract("W[-1,4]", "W[-9223372036854775808,3]").code, 24);
+        assert_eq!(subtract("W[1,2]*3", "W[1,2]").code, 18);
+        assert_eq!(subtract("W[1,2]*3", "W[1,2] type=Float").code, 14);
+        assert_eq!(subtract("W[1,2]*3", "F[1.0,2.0]").code, 17);
+    }
 
     #[test]
     fn other_texts_are_the_ports() {

@@ -5,10 +5,10 @@ use comparison::{calls, contained, plans, stored};
 use std::process::exit;
 
 const HELP: &str = "\
-compare calls --seed S --count N   generated calls: proved library, port and oracle (Pool, and texts that are no UTF-8: the first two)
+compare calls --seed S --count N   generated calls: proved library, port and oracle (Pool, texts that are no UTF-8 and range Subtracts: the first two)
 compare list FILE                  a stored list of calls: proved library and port
 compare bad [--seed S]             any bytes in any argument, overlapping operands
-compare plans --seed S --count N   generated plans: plan calls against the oracle, step by step (Pool, and texts that are no UTF-8: the port)
+compare plans --seed S --count N   generated plans: plan calls against the oracle, step by step (Pool, texts that are no UTF-8 and range Subtracts: the port)
 compare store-plans --seed S       writes the stored list of plans to standard output
 compare list-plans FILE            a stored list of plans, replayed by the plan calls
 compare contained --seed S --count N

@@ -1,12 +1,12 @@
 //! Plans: drawn, answered by walking the oracle step by step, and compared. A
-//! step that the oracle has not, of Pool or over a text that is no UTF-8, is taken
-//! by the port.
+//! step that the oracle has not, of Pool or over a text that is no UTF-8, and a
+//! range Subtract, which it answers by another rule, is taken by the port.
 
 use crate::draw;
 use crate::judge;
 use crate::tally::Tally;
 use crate::Reply;
-use oracle_list::form::{hex, POOL};
+use oracle_list::form::{hex, is_range_subtract, POOL, SUBTRACT};
 use oracle_list::generate;
 use oracle_list::random::Random;
 use oracle_list::sheet::{
@@ -21,6 +21,8 @@ pub const NO_NODE: u32 = 65_535;
 pub const STEP_CODES: [u32; 22] = [
     5, 6, 7, 8, 9, 10, 11, 12, 13, 14, 15, 16, 17, 18, 19, 20, 21, 22, 23, 24, 26, 28,
 ];
+/// What a range Subtract may be refused with.
+pub const RANGE_CODES: [u32; 2] = [18, 24];
 /// What a step of Pool may be refused with.
 pub const POOL_CODES: [u32; 15] = [5, 6, 7, 8, 11, 12, 14, 17, 18, 19, 20, 21, 24, 26, 28];
 pub const LEAF_CODES: [u32; 3] = [3, 4, 5];
@@ -29,6 +31,8 @@ pub const LEAF_CODES: [u32; 3] = [3, 4, 5];
 pub type Components = RangeInclusive<u32>;
 pub const ALL: Components = 1..=POOL;
 pub const POOL_ALONE: Components = POOL..=POOL;
+/// Subtract alone, and where a step of it is to be refused, over ranges of one kind.
+pub const RANGE_SUBTRACT: Components = SUBTRACT..=SUBTRACT;
 
 pub fn component(random: &mut Random, among: &Components) -> u32 {
     random.between(i64::from(*among.start()), i64::from(*among.end())) as u32
@@ -248,7 +252,9 @@ fn refused_operands(
         let component = component(random, among);
         let call = generate::call_for(random, component, code);
         let answer = judge::answer(component, 0, &call.left, &call.right, SLOT);
-        if answer.code != code {
+        let suits =
+            *among != RANGE_SUBTRACT || is_range_subtract(component, &call.left, &call.right, code);
+        if answer.code != code || !suits {
             continue;
         }
         if is_unary(component) {
@@ -266,10 +272,10 @@ fn step(component: u32, left: usize, right: usize) -> Step {
     }
 }
 
-/// A derived sheet with a crossed or an infinite end, and a step that reads it.
+/// A derived sheet with an infinite end, and a step that reads it.
 fn refused_result(random: &mut Random, among: &Components) -> (Vec<Vec<u8>>, Vec<Step>) {
     loop {
-        let maker = random.pick(&[2, 3, 3, 4, 5]);
+        let maker = random.pick(&[2, SUBTRACT, 4, 5]);
         let call = generate::call_for(random, maker, 0);
         let answer = judge::answer(maker, 0, &call.left, &call.right, SLOT);
         if answer.code != 0 || Sheet::decode(&answer.bytes) != Err(5) {
@@ -461,8 +467,8 @@ fn after(work: &[u8], leaves: usize, derived: &[Vec<u8>]) -> Vec<u8> {
     after
 }
 
-/// Counts the steps of Pool and the steps over texts that were taken, and one
-/// that was refused.
+/// Counts the steps of Pool, over texts, of Subtract over ranges and to ranges
+/// that were taken, and one that was refused.
 fn count_steps(tally: &mut Tally, request: &Request, wanted: &Expected) {
     let (leaves, steps) = parse(&request.plan).unwrap_or_default();
     let (code, node) = wanted.reply;
@@ -485,6 +491,8 @@ fn count_steps(tally: &mut Tally, request: &Request, wanted: &Expected) {
             &sheets[step.right][..],
         );
         tally.count_texts(read, code, sheet);
+        tally.count_subtract(read, code, sheet);
+        tally.count_range(step.component, sheet);
     }
 }
 
@@ -529,6 +537,10 @@ pub fn request(random: &mut Random) -> Request {
         3..=4 => {
             let code = random.pick(&STEP_CODES);
             refused_step(random, &ALL, code, late)
+        }
+        5 if random.percent(20) => {
+            let code = random.pick(&RANGE_CODES);
+            refused_step(random, &RANGE_SUBTRACT, code, late)
         }
         5 => {
             let code = random.pick(&POOL_CODES);
@@ -591,12 +603,24 @@ mod tests {
         let texts = tally.texts();
         assert!(texts.joined > 20 && texts.united > 20, "{tally}");
         assert!(texts.long_joins > 0 && texts.other > 5, "{tally}");
+        for code in [0].iter().chain(&RANGE_CODES) {
+            assert!(tally.of_subtract(*code) > 0, "no {code} of ranges: {tally}");
+        }
+        assert!(
+            tally.subtracted().iter().all(|count| *count > 20),
+            "{tally}"
+        );
+        assert!(tally.ranges().infinite > 20, "{tally}");
     }
 
     #[test]
     fn a_refused_step_is_refused_as_asked() {
         let mut random = Random::new(9);
-        for (among, codes) in [(ALL, &STEP_CODES[..]), (POOL_ALONE, &POOL_CODES)] {
+        for (among, codes) in [
+            (ALL, &STEP_CODES[..]),
+            (POOL_ALONE, &POOL_CODES),
+            (RANGE_SUBTRACT, &RANGE_CODES),
+        ] {
             for (code, late) in codes
                 .iter()
                 .flat_map(|code| [(*code, false), (*code, true)])
@@ -606,7 +630,12 @@ mod tests {
                 assert_eq!(wanted.reply.0, code);
                 let mut tally = Tally::default();
                 hold(&mut tally, &request, 0, &wanted);
-                assert!(among == ALL || tally.of_pool(code) == 1, "{code}: {tally}");
+                assert!(
+                    among != POOL_ALONE || tally.of_pool(code) == 1,
+                    "{code}: {tally}"
+                );
+                let ranges = tally.of_subtract(code);
+                assert!(among != RANGE_SUBTRACT || ranges == 1, "{code}: {tally}");
             }
         }
     }

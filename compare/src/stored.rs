@@ -3,10 +3,10 @@
 use crate::guard::FILLER;
 use crate::plans::{
     self, Components, Draft, Expected, Request, ALL, LEAF_CODES, MOST_NODES, POOL_ALONE,
-    POOL_CODES, SLOT, STEP_CODES,
+    POOL_CODES, RANGE_CODES, RANGE_SUBTRACT, SLOT, STEP_CODES,
 };
 use crate::tally::Tally;
-use oracle_list::form::{hex, is_comment, POOL};
+use oracle_list::form::{hex, is_comment, POOL, SUBTRACT};
 use oracle_list::random::Random;
 use oracle_list::sheet::TEXT;
 use std::fmt::Write;
@@ -18,7 +18,8 @@ const LONGEST_LINE: usize = 9000;
 
 const FORM: &str = "\
 # Plan calls with the answers of the original text, walked step by step; a step that the original has not, of component
-# 10, Pool, or over a text that is no UTF-8, is the plain port's.
+# 10, Pool, or over a text that is no UTF-8, or that document 02 gives another answer, of Subtract over two ranges of one
+# kind, is the plain port's.
 # One a line, six fields separated by a blank: plan work_len leaves code value result
 #   plan      the plan's bytes in lower-case hex, - for none
 #   work_len  the length of the work buffer, in bytes
@@ -38,12 +39,19 @@ pub fn text(seed: u64) -> String {
     let mut out = format!("{FORM}# Made by `compare store-plans --seed {seed}`.\n");
     accepted(&mut random, &mut out);
     refused(&mut random, &mut out, ("refused", &ALL), &STEP_CODES, 4);
-    pooled(&mut random, &mut out);
+    derived(&mut random, &mut out);
     refused(
         &mut random,
         &mut out,
         ("Pool refused", &POOL_ALONE),
         &POOL_CODES,
+        2,
+    );
+    refused(
+        &mut random,
+        &mut out,
+        ("range Subtract refused", &RANGE_SUBTRACT),
+        &RANGE_CODES,
         2,
     );
     for code in LEAF_CODES {
@@ -111,9 +119,9 @@ fn refused(
     }
 }
 
-/// Accepted with a step of Pool to each nature that it can give, and with a step
-/// of Add to texts.
-fn pooled(random: &mut Random, out: &mut String) {
+/// Accepted with a step of Pool to each nature that it can give, with a step of Add
+/// to texts, and with a range Subtract.
+fn derived(random: &mut Random, out: &mut String) {
     let natures = [
         (POOL, 0, "Pool to absent"),
         (POOL, 1, "Pool to whole range"),
@@ -122,6 +130,8 @@ fn pooled(random: &mut Random, out: &mut String) {
         (POOL, 4, "Pool to Bool lists"),
         (POOL, TEXT, "Pool to text lists"),
         (ADD, TEXT, "Add to text lists"),
+        (SUBTRACT, 1, "Subtract to whole range"),
+        (SUBTRACT, 2, "Subtract to float range"),
     ];
     for (component, nature, name) in natures {
         let _ = writeln!(out, "# accepted, {name}");
@@ -313,5 +323,13 @@ mod tests {
         assert!(tally.pooled().iter().all(|count| *count >= 4), "{tally}");
         let texts = tally.texts();
         assert!(texts.joined >= 4 && texts.long_joins >= 1, "{tally}");
+        for code in crate::plans::RANGE_CODES {
+            assert!(tally.of_subtract(code) >= 4, "ranges' {code}: {tally}");
+        }
+        assert!(
+            tally.subtracted().iter().all(|count| *count >= 4),
+            "{tally}"
+        );
+        assert!(tally.ranges().infinite >= 8, "{tally}");
     }
 }

@@ -2,8 +2,9 @@
 
 use crate::judge::has_other_texts;
 use crate::plans::is_unary;
-use oracle_list::form::POOL;
-use oracle_list::sheet::TEXT;
+use oracle_list::form::{hex, is_range_subtract, POOL};
+use oracle_list::sheet::{Ends, Nature, Sheet, TEXT};
+use oracle_list::stats::NAMES;
 use std::collections::BTreeMap;
 use std::fmt;
 
@@ -28,6 +29,18 @@ pub struct Texts {
     pub other: usize,
 }
 
+/// Derived ranges. Since document 02's S-4 no rule inverts one: a whole lower is
+/// never above its upper, and 5 refuses a float range by an infinite end alone.
+#[derive(Default)]
+pub struct Ranges {
+    pub whole: usize,
+    pub float: usize,
+    /// Float ranges with an infinite end.
+    pub infinite: usize,
+    /// By component.
+    pub of: [usize; NAMES.len()],
+}
+
 #[derive(Default)]
 pub struct Tally {
     codes: BTreeMap<u32, usize>,
@@ -36,6 +49,10 @@ pub struct Tally {
     /// Pool's results by their nature, as in `POOLED`.
     pooled: [usize; POOLED.len()],
     texts: Texts,
+    /// Range Subtracts' answers among them, and their results: whole, float.
+    subtracts: BTreeMap<u32, usize>,
+    subtracted: [usize; 2],
+    ranges: Ranges,
     shown: Vec<String>,
     pub differences: usize,
 }
@@ -78,6 +95,54 @@ impl Tally {
         }
     }
 
+    /// An answer to a call, if it is a range Subtract's; `sheet` is what was accepted.
+    pub fn count_subtract(
+        &mut self,
+        (component, left, right): (u32, &[u8], &[u8]),
+        code: u32,
+        sheet: &[u8],
+    ) {
+        if !is_range_subtract(component, left, right, code) {
+            return;
+        }
+        *self.subtracts.entry(code).or_default() += 1;
+        match sheet.get(AT_NATURE) {
+            Some(1) => self.subtracted[0] += 1,
+            Some(2) => self.subtracted[1] += 1,
+            _ => (),
+        }
+    }
+
+    /// A derived sheet, if it holds a range: one that is inverted is a difference.
+    pub fn count_range(&mut self, component: u32, sheet: &[u8]) {
+        if !matches!(sheet.get(AT_NATURE), Some(1 | 2)) {
+            return;
+        }
+        let upright = match Sheet::decode_unordered(sheet).map(|sheet| sheet.nature) {
+            Ok(Nature::WholeRange(entries)) => {
+                self.ranges.whole += 1;
+                entries.iter().all(|entry| in_order(*entry, |end| end))
+            }
+            Ok(Nature::FloatRange(entries)) => {
+                let infinite = |entry: &Ends<u64>| {
+                    let mut ends = entry.0.iter().chain(&entry.1);
+                    ends.any(|end| f64::from_bits(*end).is_infinite())
+                };
+                self.ranges.float += 1;
+                self.ranges.infinite += usize::from(entries.iter().any(infinite));
+                entries.iter().all(|entry| in_order(*entry, f64::from_bits))
+            }
+            _ => false,
+        };
+        let place = (component as usize).wrapping_sub(1);
+        if let Some(count) = self.ranges.of.get_mut(place) {
+            *count += 1;
+        }
+        if !upright {
+            self.differ(|| format!("component {component} derives {}", hex(sheet)));
+        }
+    }
+
     pub fn differ(&mut self, text: impl FnOnce() -> String) {
         self.differences += 1;
         if self.shown.len() < SHOWN {
@@ -105,6 +170,30 @@ impl Tally {
     pub fn texts(&self) -> &Texts {
         &self.texts
     }
+
+    pub fn of_subtract(&self, code: u32) -> usize {
+        self.subtracts.get(&code).copied().unwrap_or(0)
+    }
+
+    /// Range Subtracts' results: whole, float.
+    pub fn subtracted(&self) -> [usize; 2] {
+        self.subtracted
+    }
+
+    pub fn ranges(&self) -> &Ranges {
+        &self.ranges
+    }
+}
+
+/// Whether an entry's ends are numbers, infinite ones too, and no lower is above
+/// its upper.
+fn in_order<T: Copy, U: PartialOrd>((lower, upper): Ends<T>, value: impl Fn(T) -> U) -> bool {
+    // A NaN is not at most itself.
+    let number = |end: Option<T>| end.map_or(true, |end| value(end) <= value(end));
+    let crossed = lower
+        .zip(upper)
+        .is_some_and(|(lower, upper)| value(lower) > value(upper));
+    number(lower) && number(upper) && !crossed
 }
 
 fn listed(codes: &BTreeMap<u32, usize>) -> String {
@@ -121,6 +210,16 @@ impl fmt::Display for Texts {
             f,
             "texts: {} calls read some, {} of them no UTF-8; {} joined by Add, {} united by Pool; 28: {} by Add, {} by Pool",
             self.calls, self.other, self.joined, self.united, self.long_joins, self.long_unions
+        )
+    }
+}
+
+impl fmt::Display for Ranges {
+    fn fmt(&self, f: &mut fmt::Formatter) -> fmt::Result {
+        write!(
+            f,
+            "derived ranges: {} whole, {} float, {} of these with an infinite end",
+            self.whole, self.float, self.infinite
         )
     }
 }
@@ -142,11 +241,48 @@ impl fmt::Display for Tally {
         if self.texts.calls > 0 {
             writeln!(f, "{}", self.texts)?;
         }
+        if !self.subtracts.is_empty() {
+            let [whole, float] = self.subtracted;
+            let codes = listed(&self.subtracts);
+            writeln!(
+                f,
+                "range Subtract by code: {codes}; its results: {whole} whole and {float} float ranges"
+            )?;
+        }
+        if self.ranges.of != [0; NAMES.len()] {
+            writeln!(f, "{}", self.ranges)?;
+        }
         write!(
             f,
             "{} in all, {} differences",
             self.total(),
             self.differences
         )
+    }
+}
+
+#[cfg(test)]
+mod tests {
+    use super::Tally;
+    use oracle_list::text;
+
+    /// Whether a derived sheet is let pass, and whether it has an infinite end.
+    fn derived(sheet: &str) -> (bool, usize) {
+        let mut tally = Tally::default();
+        tally.count_range(3, &text::bytes(sheet));
+        (tally.differences == 0, tally.ranges().infinite)
+    }
+
+    #[test]
+    fn an_inverted_range_is_a_difference() {
+        assert_eq!(derived("W[-5,1]"), (true, 0));
+        assert_eq!(derived("W[1,2][0,-4]"), (false, 0));
+        assert_eq!(derived("W[_,-4][0,_]"), (true, 0));
+        assert_eq!(derived("F[0.0,-0.0]"), (true, 0));
+        assert_eq!(derived("F[-inf,1.0]"), (true, 1));
+        assert_eq!(derived("F[inf,1.0]"), (false, 1));
+        assert_eq!(derived("F[0.5,0.25]"), (false, 0));
+        assert_eq!(derived("F[NaN,_]"), (false, 0));
+        assert_eq!(derived("W{2,1}"), (true, 0));
     }
 }

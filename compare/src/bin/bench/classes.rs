@@ -141,8 +141,9 @@ fn refused(code: u32, mark: Mark) -> bool {
     (6..=23).contains(&code) && mark == Mark::Rust
 }
 
-/// Generated calls whose answer is wanted. Texts have a row of their own: without
-/// them a library from before them can be held against this one.
+/// Generated calls whose answer is wanted. Texts have a row of their own, and range
+/// Subtracts, which the original answers by other ends, have none: without them
+/// all ways agree, and so does a library from before document 02's S-2 and S-4.
 fn drawn(wanted: impl Fn(u32, Mark) -> bool) -> Vec<Call> {
     let mut random = Random::new(SEED);
     let mut calls = Vec::new();
@@ -152,8 +153,8 @@ fn drawn(wanted: impl Fn(u32, Mark) -> bool) -> Vec<Call> {
             continue;
         }
         let answer =
-            oracle_original::answer(call.component, call.node, &call.left, &call.right, LONGEST);
-        if wanted(answer.code, answer.mark) {
+            oracle_original::asked(call.component, call.node, &call.left, &call.right, LONGEST);
+        if answer.is_some_and(|answer| wanted(answer.code, answer.mark)) {
             call.out_len = LONGEST;
             calls.push(call);
         }
