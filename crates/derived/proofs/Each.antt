@@ -1,5 +1,5 @@
 -- `Each` of lists that are made, joined, cut and repeated; and how many values a rule gives of a list. Assumes nothing.
-use mathlib.Core.Path.{_≡_, sym, ap, _∙_}
+use mathlib.Core.Path.{_≡_, refl, sym, ap, _∙_}
 use mathlib.Core.Bool.{Bool, true, false, cond}
 use mathlib.Core.List.{List, [], _∷_, _++_, map}
 use Prim.Native.Nat.{ℕ, zero, suc, _+_, _≤_, _<_}
@@ -7,8 +7,9 @@ use native.Mathlib.Omega.{arith}
 use lib.ListN.{length, replicate, take, drop, length-replicate}
 use Rattle.numbers.specs.Result.{Result, ok}
 use Rattle.numbers.proofs.Results.{then-ok-inv}
-use Rattle.utilities.specs.Lists.{listFrom, has, noted, firstsFrom, firsts, repeated}
+use Rattle.utilities.specs.Lists.{listFrom, every, has, noted, firstsFrom, firsts, repeated}
 use Rattle.utilities.specs.Columns.{each, eachPair}
+use Rattle.utilities.proofs.Built.{both-hold}
 use Rattle.round_trip.specs.WellFormed.{Each}
 use Rattle.derived.proofs.Answers.{ok-same}
 
@@ -70,6 +71,25 @@ each-weaken P Q h (x ∷ xs) p = (h x (p .0), each-weaken P Q h xs (p .1))
 pub each-map : {X Y : Type 0} (P : X → Type 0) (Q : Y → Type 0) (f : X → Y) → ((x : X) → P x → Q (f x)) → (xs : List X) → Each P xs → Each Q (map f xs)
 each-map P Q f h [] p = tt
 each-map P Q f h (x ∷ xs) p = (h x (p .0), each-map P Q f h xs (p .1))
+
+pub each-any : {X : Type 0} (xs : List X) → Each (λ x. Unit {0}) xs
+each-any [] = tt
+each-any (x ∷ xs) = (tt, each-any xs)
+
+pub each-both : {X : Type 0} (P Q : X → Type 0) (xs : List X) → Each P xs → Each Q xs → Each (λ x. P x × Q x) xs
+each-both P Q [] p q = tt
+each-both P Q (x ∷ xs) p q = ((p .0, q .0), each-both P Q xs (p .1) (q .1))
+
+-- a test of every value
+pub every-each : {X : Type 0} (t : X → Bool) (xs : List X) → every t xs ≡ true → Each (λ x. t x ≡ true) xs
+unfolding every
+every-each t [] e = tt
+every-each t (x ∷ xs) e = let h = both-hold (t x) (every t xs) e in (h .0, every-each t xs (h .1))
+
+pub each-every : {X : Type 0} (t : X → Bool) (xs : List X) → Each (λ x. t x ≡ true) xs → every t xs ≡ true
+unfolding every
+each-every t [] h = refl
+each-every t (x ∷ xs) h = rw (h .0, each-every t xs (h .1))
 
 pub repeated-within {ℓ} : {X : Type ℓ} (n k : ℕ) (xs : List X) → n ≤ k → length xs ≤ k → length (repeated n xs) ≤ k
 unfolding repeated

@@ -200,17 +200,23 @@ module _ {E : Type 0} (K : Kind E) (P : E → Type 0) where
     rule-fits C.Pool x y p q = pool-fits x y p q
 
 -- of another type than Int, Modulo's ends are absent
-pub whole-rule-fits : (c : Component) (type : ℕ) (x y : Span ℤ) → SpanFits Whole x → SpanFits Whole y → Gives (SpanFits Whole) (wholeRule c type x y)
+pub whole-rule-is : (X : Result (Span ℤ) → Type 0) (c : Component) (type : ℕ) (x y : Span ℤ) → X (endRule whole c x y) → X unknown → X (wholeRule c type x y)
 unfolding wholeRule
-whole-rule-fits C.Modulo type x y p q =
-    gives-either (SpanFits Whole) (eqb type intType) (endRule whole C.Modulo x y) unknown (rule-fits whole Whole whole-fits C.Modulo x y p q)
-    (record { lower = tt; upper = tt })
-whole-rule-fits C.Abs type x y p q = rule-fits whole Whole whole-fits C.Abs x y p q
-whole-rule-fits C.Add type x y p q = rule-fits whole Whole whole-fits C.Add x y p q
-whole-rule-fits C.Subtract type x y p q = rule-fits whole Whole whole-fits C.Subtract x y p q
-whole-rule-fits C.Multiply type x y p q = rule-fits whole Whole whole-fits C.Multiply x y p q
-whole-rule-fits C.Divide type x y p q = rule-fits whole Whole whole-fits C.Divide x y p q
-whole-rule-fits C.Log type x y p q = rule-fits whole Whole whole-fits C.Log x y p q
-whole-rule-fits C.Power type x y p q = rule-fits whole Whole whole-fits C.Power x y p q
-whole-rule-fits C.Negative type x y p q = rule-fits whole Whole whole-fits C.Negative x y p q
-whole-rule-fits C.Pool type x y p q = rule-fits whole Whole whole-fits C.Pool x y p q
+whole-rule-is X C.Modulo type x y p q = go (eqb type intType)
+  where
+    go : (t : Bool) → X (cond t (endRule whole C.Modulo x y) unknown)
+    go true = p
+    go false = q
+whole-rule-is X C.Abs type x y p q = p
+whole-rule-is X C.Add type x y p q = p
+whole-rule-is X C.Subtract type x y p q = p
+whole-rule-is X C.Multiply type x y p q = p
+whole-rule-is X C.Divide type x y p q = p
+whole-rule-is X C.Log type x y p q = p
+whole-rule-is X C.Power type x y p q = p
+whole-rule-is X C.Negative type x y p q = p
+whole-rule-is X C.Pool type x y p q = p
+
+pub whole-rule-fits : (c : Component) (type : ℕ) (x y : Span ℤ) → SpanFits Whole x → SpanFits Whole y → Gives (SpanFits Whole) (wholeRule c type x y)
+whole-rule-fits c type x y p q =
+    whole-rule-is (λ g. Gives (SpanFits Whole) g) c type x y (rule-fits whole Whole whole-fits c x y p q) (record { lower = tt; upper = tt })

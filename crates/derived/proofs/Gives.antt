@@ -22,10 +22,6 @@ pub gives-more : {X : Type 0} (P Q : X → Type 0) (g : Result X) → Gives P g 
 gives-more P Q (ok x) p h = h x refl p
 gives-more P Q (refused k) p h = p
 
-pub gives-both : {X : Type 0} (P Q : X → Type 0) (g : Result X) → Gives P g → Gives Q g → Gives (λ x. P x × Q x) g
-gives-both P Q (ok x) p q = (p, q)
-gives-both P Q (refused k) p q = p
-
 pub gives-then : {X Y : Type 0} (P : X → Type 0) (Q : Y → Type 0) (g : Result X) (rest : X → Result Y) → Gives P g
     → ((x : X) → P x → Gives Q (rest x)) → Gives Q (andThen g rest)
 gives-then P Q (ok x) rest p h = h x p

@@ -27,7 +27,7 @@ use Rattle.base.proofs.Passed.{passed-all}
 use Rattle.ends.specs.Ends.{both, present, fromOne, fromBoth, negEnds, absLower, absUpper, absEnds}
 use Rattle.ends.specs.Signs.{Number, NumberEnd, Numbers, copied, negated, negBits, absBitsOf, inBits, FromOne, FromOneEach, SignSteps}
 use Rattle.round_trip.specs.WellFormed.{Each, Present, Double, SpanFits, NatureFits}
-use Rattle.derived.proofs.Pooled.{Finite, float-parts}
+use Rattle.derived.proofs.Pooled.{Finite, float-entry}
 use Rattle.derived.proofs.Decoded.{decoded-held}
 
 -- ---- an entry
@@ -93,7 +93,7 @@ unfolding every
 each-signs [] p h = tt
 each-signs (x ∷ xs) p h =
     let held = both-hold (floatHolds x) (every floatHolds xs) h in
-    let f = float-parts x (held .0) .0 in
+    let f = float-entry x (held .0) .ends in
     (sign-steps x (p .0) (number-end (x .lower) (f .lower), number-end (x .upper) (f .upper)), each-signs xs (p .1) (held .1))
 
 bounds-hold : (xs : List (Span Float)) → boundsFail (floatRange xs) ≡ false → every floatHolds xs ≡ true

@@ -1,0 +1,266 @@
+-- The ranges of a derived sheet are what the end rules make of its operands' ranges, entry by entry; whatever else a component derives is no range.
+--     derived-ranges    what the end rules give of entries, the sheet that a component derives has
+-- Assumes nothing.
+use mathlib.Core.Path.{_≡_}
+use mathlib.Core.Bool.{true}
+use mathlib.Core.List.{List}
+use mathlib.Core.Option.{Option, none, some}
+use Prim.Native.Nat.{ℕ}
+use lib.Dec.{eqb, ltb}
+use lib.IntN.{ℤ}
+use lib.Ieee.{Float}
+use borrow.Author.Tests.{not-false}
+use Rattle.numbers.specs.Result.{Result, ok, refused, Check}
+use Rattle.numbers.specs.Kind.{Span, whole, float, eqZ}
+use Rattle.utilities.specs.Lists.{repeated}
+use Rattle.base.specs.Form.{Form}
+use Rattle.base.specs.Sheet.{Nature, absent, wholeRange, floatRange, wholeLists, boolLists, floatLists, textLists, Sheet}
+use Rattle.base.specs.Bounds.{positive, everyEntry, lowersPositive}
+use Rattle.base.specs.Encode.{valueCount, textSize}
+use Rattle.base.specs.declared.Component.{Component}
+use Rattle.base.specs.declared.Component.the-variants as C
+use Rattle.ends.specs.Ends.{endRule}
+use Rattle.ends.specs.Ranges.{wholeRule, rangePair, rangeAlone}
+use Rattle.category_lists.specs.Categories.{categoryRule, textRule, sameText, ruled, combined, mapped, united, keptTo, textKept, kept, limited}
+use Rattle.shape.specs.Shape.{columnsOf, widest, rowsSum}
+use Rattle.orders.specs.Orders.{unaryChecks, pairChecks, copyChecks, lastChecks, poolChecks}
+use Rattle.orders.proofs.Passing.{Passing}
+use Rattle.calls.specs.Natures.{ruleFor, wholeListsOf, boolListsOf, textListsOf, listChecks, bothListChecks, unitedNature, listsUnited, combinedNature, listsPair, listsAlone, wholeRangeWith, floatRangeWith, listsWith, twoNatures, binaryNature, poolNature, unaryNature}
+use Rattle.calls.specs.Derive.{deriveUnary, derivePair, deriveCopy, derivePool, derive}
+use Rattle.round_trip.specs.WellFormed.{Each}
+use Rattle.derived.proofs.Each.{each-repeated, each-both, each-any, every-each}
+use Rattle.derived.proofs.Values.{IfOk, value-then, value-either, value-passed, value-after, each-values, pair-values}
+use Rattle.derived.proofs.Ordered.{Asked}
+
+-- P of every entry of a whole range, S of every entry of a float range
+abbrev pub OfEntries : (Span ℤ → Type 0) → (Span Float → Type 0) → Nature → Type 0
+OfEntries P S absent = Unit {0}
+OfEntries P S (wholeRange rs) = Each P rs
+OfEntries P S (floatRange rs) = Each S rs
+OfEntries P S (wholeLists ls) = Unit {0}
+OfEntries P S (boolLists ls) = Unit {0}
+OfEntries P S (floatLists ls) = Unit {0}
+OfEntries P S (textLists ls) = Unit {0}
+
+-- ---- lists of entries
+
+module _ {E : Type 0} (P P′ Q : Span E → Type 0) (rule : Span E → Span E → Result (Span E)) (columns : ℕ) where
+  range-values : ((x y : Span E) → P x → P′ y → IfOk Q (rule x y)) → (xs ys : List (Span E)) → Each P xs → Each P′ ys → IfOk (Each Q) (rangePair rule columns xs ys)
+  unfolding rangePair
+  range-values h xs ys p q =
+      value-passed (Each Q) _ _
+      (λ passing. pair-values P P′ Q rule h (repeated columns xs) (repeated columns ys) (each-repeated P columns xs p) (each-repeated P′ columns ys q))
+
+  alone-values : ((x : Span E) → P x → IfOk Q (rule x x)) → (xs : List (Span E)) → Each P xs → IfOk (Each Q) (rangeAlone rule columns xs)
+  unfolding rangeAlone
+  alone-values h xs p = value-passed (Each Q) _ _ (λ passing. each-values P P′ Q (λ x. rule x x) h (repeated columns xs) (each-repeated P columns xs p))
+
+-- ---- what is asked of the right: nothing, or by 16 of Modulo a lower above 0
+
+any-right : (k : Nature) → OfEntries (λ y. Unit {0}) (λ y. Unit {0}) k
+any-right absent = tt
+any-right (wholeRange rs) = each-any rs
+any-right (floatRange rs) = each-any rs
+any-right (wholeLists ls) = tt
+any-right (boolLists ls) = tt
+any-right (floatLists ls) = tt
+any-right (textLists ls) = tt
+
+positive-right : (k : Nature) → lowersPositive k ≡ true → OfEntries (Asked whole C.Modulo) (Asked float C.Modulo) k
+unfolding lowersPositive everyEntry
+positive-right absent e = tt
+positive-right (wholeRange rs) e = every-each (λ r. positive whole (r .lower)) rs e
+positive-right (floatRange rs) e = every-each (λ r. positive float (r .lower)) rs e
+positive-right (wholeLists ls) e = tt
+positive-right (boolLists ls) e = tt
+positive-right (floatLists ls) e = tt
+positive-right (textLists ls) e = tt
+
+-- ---- what keeps to the limits is what it was
+
+module _ (Q : Nature → Type 0) where
+  kept-to : (limit : ℕ) (k : Nature) → Q k → IfOk Q (keptTo limit k)
+  unfolding keptTo
+  kept-to limit k q = value-either Q (ltb limit (valueCount k)) (refused 26) (ok k) tt q
+
+  kept-value : (F : Form) (k : Nature) → Q k → IfOk Q (kept F k)
+  unfolding textKept
+  kept-value F k q =
+      value-then Q Q (keptTo (F .categoryLimit) k) (textKept (F .textLimit)) (kept-to (F .categoryLimit) k q)
+      (λ n p. value-either Q (ltb (F .textLimit) (textSize n)) (refused 28) (ok n) tt p)
+
+  ruled-value : {E : Type 0} (o : Option (E → E → Result E)) (rest : (E → E → Result E) → Result Nature) → ((rule : E → E → Result E) → IfOk Q (rest rule)) → IfOk Q (ruled o rest)
+  ruled-value none rest h = tt
+  ruled-value (some rule) rest h = h rule
+
+-- the end rules make entries that are Q and T of entries that are P and S
+module _ (P Q : Span ℤ → Type 0) (S T : Span Float → Type 0)
+    (wholes : (c : Component) (type : ℕ) (x y : Span ℤ) → P x → P y → Asked whole c y → IfOk Q (wholeRule c type x y))
+    (floats : (c : Component) (x y : Span Float) → S x → S y → Asked float c y → IfOk T (endRule float c x y)) where
+  abbrev Operand : Nature → Type 0
+  Operand = OfEntries P S
+
+  abbrev Derived : Nature → Type 0
+  Derived = OfEntries Q T
+
+  module _ (c : Component) (type columns : ℕ) where
+    abbrev Right : Nature → Type 0
+    Right = OfEntries (Asked whole c) (Asked float c)
+
+    -- ---- categories make no range
+
+    united-value : (l r : Nature) → IfOk Derived (unitedNature columns l r)
+    united-value absent r = tt
+    united-value (wholeRange rs) r = tt
+    united-value (floatRange rs) r = tt
+    united-value (wholeLists ls) r = value-after Derived (united eqZ columns ls (wholeListsOf r)) _ (λ ns. tt)
+    united-value (boolLists ls) r = value-after Derived (united eqb columns ls (boolListsOf r)) _ (λ ns. tt)
+    united-value (floatLists ls) r = tt
+    united-value (textLists ls) r = value-after Derived (united sameText columns ls (textListsOf r)) _ (λ ns. tt)
+
+    limited-value : (limit : ℕ) (g : Result (List (List ℤ))) → IfOk Derived (limited limit g)
+    limited-value limit g = value-after Derived g _ (λ ls. kept-to Derived limit (wholeLists ls) tt)
+
+    combined-value : (F : Form) (l r : Nature) → IfOk Derived (combinedNature F c type columns l r)
+    combined-value F absent r = tt
+    combined-value F (wholeRange rs) r = tt
+    combined-value F (floatRange rs) r = tt
+    combined-value F (wholeLists ls) r = ruled-value Derived (categoryRule c type) _ (λ rule. limited-value (F .categoryLimit) (combined eqZ rule columns ls (wholeListsOf r)))
+    combined-value F (boolLists ls) r = tt
+    combined-value F (floatLists ls) r = tt
+    combined-value F (textLists ls) r =
+        ruled-value Derived (textRule c) _
+        (λ rule. value-after Derived (combined sameText rule columns ls (textListsOf r)) _ (λ ns. kept-value Derived F (textLists ns) tt))
+
+    alone-value : (limit : ℕ) (l : Nature) → IfOk Derived (listsAlone limit c type columns l)
+    unfolding listsAlone
+    alone-value limit l =
+        value-passed Derived (listChecks l) _
+        (λ passing. ruled-value Derived (ruleFor c type l) _ (λ rule. limited-value limit (mapped eqZ rule columns (wholeListsOf l))))
+
+    -- ---- two natures, of which two categories make no range together
+
+    module _ (together : Nature → Nature → Result Nature) where
+      whole-with : (xs : List (Span ℤ)) (r : Nature) → Each P xs → Operand r → Right r → IfOk Derived (wholeRangeWith c type columns together xs r)
+      unfolding wholeRangeWith
+      whole-with xs absent p q h = tt
+      whole-with xs (wholeRange ys) p q h =
+          value-then (Each Q) Derived (rangePair (wholeRule c type) columns xs ys) _
+          (range-values P (λ y. P y × Asked whole c y) Q (wholeRule c type) columns (λ x y p q. wholes c type x y p (q .0) (q .1)) xs ys p (each-both P (Asked whole c) ys q h)) (λ zs r. r)
+      whole-with xs (floatRange ys) p q h = tt
+      whole-with xs (wholeLists ms) p q h = tt
+      whole-with xs (boolLists ms) p q h = tt
+      whole-with xs (floatLists ms) p q h = tt
+      whole-with xs (textLists ms) p q h = tt
+
+      float-with : (xs : List (Span Float)) (r : Nature) → Each S xs → Operand r → Right r → IfOk Derived (floatRangeWith c type columns together xs r)
+      unfolding floatRangeWith
+      float-with xs absent p q h = tt
+      float-with xs (wholeRange ys) p q h = tt
+      float-with xs (floatRange ys) p q h =
+          value-then (Each T) Derived (rangePair (endRule float c) columns xs ys) _
+          (range-values S (λ y. S y × Asked float c y) T (endRule float c) columns (λ x y p q. floats c x y p (q .0) (q .1)) xs ys p (each-both S (Asked float c) ys q h)) (λ zs r. r)
+      float-with xs (wholeLists ms) p q h = tt
+      float-with xs (boolLists ms) p q h = tt
+      float-with xs (floatLists ms) p q h = tt
+      float-with xs (textLists ms) p q h = tt
+
+      lists-with : (l r : Nature) → IfOk Derived (together l r) → IfOk Derived (listsWith c type columns together l r)
+      unfolding listsWith
+      lists-with l absent h = tt
+      lists-with l (wholeRange ys) h = tt
+      lists-with l (floatRange ys) h = tt
+      lists-with l (wholeLists ms) h = h
+      lists-with l (boolLists ms) h = h
+      lists-with l (floatLists ms) h = h
+      lists-with l (textLists ms) h = h
+
+      two-values : (l r : Nature) → Operand l → Operand r → Right r → IfOk Derived (together l r) → IfOk Derived (twoNatures c type columns together l r)
+      unfolding twoNatures
+      two-values absent r p q h k = tt
+      two-values (wholeRange xs) r p q h k = whole-with xs r p q h
+      two-values (floatRange xs) r p q h k = float-with xs r p q h
+      two-values (wholeLists ls) r p q h k = lists-with (wholeLists ls) r k
+      two-values (boolLists ls) r p q h k = lists-with (boolLists ls) r k
+      two-values (floatLists ls) r p q h k = lists-with (floatLists ls) r k
+      two-values (textLists ls) r p q h k = lists-with (textLists ls) r k
+
+    binary-values : (F : Form) (l r : Nature) → Operand l → Operand r → Right r → IfOk Derived (binaryNature F c type columns l r)
+    unfolding listsPair
+    binary-values F l r p q h = two-values (listsPair F c type columns) l r p q h (value-passed Derived (bothListChecks l r) _ (λ passing. combined-value F l r))
+
+    pool-values : (l r : Nature) → Operand l → Operand r → Right r → IfOk Derived (poolNature c type columns l r)
+    unfolding listsUnited
+    pool-values l r p q h = two-values (listsUnited columns) l r p q h (value-passed Derived (bothListChecks l r) _ (λ passing. united-value l r))
+
+    unary-values : (limit : ℕ) (l : Nature) → ((x : Span ℤ) → P x → IfOk Q (endRule whole c x x)) → ((x : Span Float) → S x → IfOk T (endRule float c x x))
+        → Operand l → IfOk Derived (unaryNature limit c type columns l)
+    unfolding unaryNature
+    unary-values limit absent f g p = tt
+    unary-values limit (wholeRange xs) f g p = value-then (Each Q) Derived (rangeAlone (endRule whole c) columns xs) _ (alone-values P P Q (endRule whole c) columns f xs p) (λ zs r. r)
+    unary-values limit (floatRange xs) f g p = value-then (Each T) Derived (rangeAlone (endRule float c) columns xs) _ (alone-values S S T (endRule float c) columns g xs p) (λ zs r. r)
+    unary-values limit (wholeLists ls) f g p = alone-value limit (wholeLists ls)
+    unary-values limit (boolLists ls) f g p = alone-value limit (boolLists ls)
+    unary-values limit (floatLists ls) f g p = alone-value limit (floatLists ls)
+    unary-values limit (textLists ls) f g p = alone-value limit (textLists ls)
+
+  -- ---- the sheet
+
+  abbrev DerivedSheet : Sheet → Type 0
+  DerivedSheet s = Derived (s .nature)
+
+  module _ (F : Form) (c : Component) (l r : Sheet) (p : Operand (l .nature)) (q : Operand (r .nature)) where
+    -- what a family's checks leave of the right
+    abbrev Rightly : List Check → Type 0
+    Rightly cs = Passing cs → OfEntries (Asked whole c) (Asked float c) (r .nature)
+
+    pair-ranges : Rightly (pairChecks l r) → IfOk DerivedSheet (derivePair F c l r)
+    unfolding derivePair
+    pair-ranges h =
+        let wide = widest (l .fields) (r .fields) in
+        value-passed DerivedSheet (pairChecks l r) _
+        (λ passing.
+        value-then Derived DerivedSheet (binaryNature F c (l .fields .dataType) wide (l .nature) (r .nature)) _
+        (binary-values c (l .fields .dataType) wide F (l .nature) (r .nature) p q (h passing)) (λ k m. m))
+
+    copy-ranges : Rightly (copyChecks c l r) → IfOk DerivedSheet (deriveCopy F c l r)
+    unfolding deriveCopy
+    copy-ranges h =
+        value-passed DerivedSheet (copyChecks c l r) _
+        (λ passing.
+        value-then Derived DerivedSheet (binaryNature F c (l .fields .dataType) (columnsOf (l .fields)) (l .nature) (r .nature)) _
+        (binary-values c (l .fields .dataType) (columnsOf (l .fields)) F (l .nature) (r .nature) p q (h passing))
+        (λ k m. value-passed DerivedSheet (lastChecks l r) _ (λ passing. m)))
+
+    pool-ranges : Rightly (poolChecks l r) → IfOk DerivedSheet (derivePool F c l r)
+    unfolding derivePool
+    pool-ranges h =
+        let wide = widest (l .fields) (r .fields) in
+        value-passed DerivedSheet (poolChecks l r) _
+        (λ passing.
+        value-then Derived DerivedSheet (poolNature c (l .fields .dataType) wide (l .nature) (r .nature)) _
+        (pool-values c (l .fields .dataType) wide (l .nature) (r .nature) p q (h passing))
+        (λ k m. value-after DerivedSheet (rowsSum (l .fields .rows) (r .fields .rows)) _
+        (λ rows. value-then Derived DerivedSheet (kept F k) _ (kept-value Derived F k m) (λ k′ m′. m′))))
+
+    unary-ranges : ((x : Span ℤ) → P x → IfOk Q (endRule whole c x x)) → ((x : Span Float) → S x → IfOk T (endRule float c x x)) → IfOk DerivedSheet (deriveUnary F c l)
+    unfolding deriveUnary
+    unary-ranges f g =
+        value-passed DerivedSheet (unaryChecks (l .fields)) _
+        (λ passing.
+        value-then Derived DerivedSheet (unaryNature (F .categoryLimit) c (l .fields .dataType) (columnsOf (l .fields)) (l .nature)) _
+        (unary-values c (l .fields .dataType) (columnsOf (l .fields)) (F .categoryLimit) (l .nature) f g p) (λ k m. m))
+
+  pub derived-ranges : (F : Form) (c : Component) (l r : Sheet) → Operand (l .nature) → Operand (r .nature) → IfOk DerivedSheet (derive F c l r)
+  unfolding derive wholeRule
+  derived-ranges F C.Abs l r p q = unary-ranges F C.Abs l r p q (λ x h. wholes C.Abs 0 x x h h tt) (λ x h. floats C.Abs x x h h tt)
+  derived-ranges F C.Add l r p q = pair-ranges F C.Add l r p q (λ passing. any-right (r .nature))
+  derived-ranges F C.Subtract l r p q = pair-ranges F C.Subtract l r p q (λ passing. any-right (r .nature))
+  derived-ranges F C.Multiply l r p q = pair-ranges F C.Multiply l r p q (λ passing. any-right (r .nature))
+  derived-ranges F C.Divide l r p q = pair-ranges F C.Divide l r p q (λ passing. any-right (r .nature))
+  derived-ranges F C.Modulo l r p q =
+      copy-ranges F C.Modulo l r p q (λ passing. positive-right (r .nature) (not-false (lowersPositive (r .nature)) (passing .1 .1 .1 .1 .1 .1 .0)))
+  derived-ranges F C.Log l r p q = copy-ranges F C.Log l r p q (λ passing. any-right (r .nature))
+  derived-ranges F C.Power l r p q = copy-ranges F C.Power l r p q (λ passing. any-right (r .nature))
+  derived-ranges F C.Negative l r p q = unary-ranges F C.Negative l r p q (λ x h. wholes C.Negative 0 x x h h tt) (λ x h. floats C.Negative x x h h tt)
+  derived-ranges F C.Pool l r p q = pool-ranges F C.Pool l r p q (λ passing. any-right (r .nature))
