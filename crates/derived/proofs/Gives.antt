@@ -31,6 +31,11 @@ pub gives-either : {X : Type 0} (P : X → Type 0) (t : Bool) (g h : Result X) �
 gives-either P true g h p q = p
 gives-either P false g h p q = q
 
+-- with the test at hand
+pub gives-tested : {X : Type 0} (P : X → Type 0) (t : Bool) (g h : Result X) → (t ≡ true → Gives P g) → Gives P h → Gives P (cond t g h)
+gives-tested P true g h p q = p refl
+gives-tested P false g h p q = q
+
 -- no check of a list has the number 0
 abbrev pub counted : List Check → Bool
 counted [] = true

@@ -4,6 +4,8 @@ pub mod Gives
 pub mod Values
 pub mod Each
 pub mod Fitted
+pub mod Fractions
+pub mod Rounded
 pub mod Ordered
 pub mod Pooled
 -- What passes 3 and 4 keeps to its form, and so does what is derived of it.
@@ -18,3 +20,5 @@ pub mod Written
 -- The ranges that are derived of operands that pass 5.
 pub mod Ranged
 pub mod Uncrossed
+pub mod Doubles
+pub mod Infinite

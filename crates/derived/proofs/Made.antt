@@ -34,7 +34,7 @@ use Rattle.derived.specs.Held.{ValuesAllowed}
 use Rattle.derived.proofs.Answers.{checked-rest}
 use Rattle.derived.proofs.Each.{each-append, each-repeated, each-weaken, each-firsts, each-map, repeated-within, each-length, pair-length}
 use Rattle.derived.proofs.Gives.{Gives, gives-more, gives-then, gives-checked, each-gives, pair-gives}
-use Rattle.derived.proofs.Fitted.{fitting-fits, whole-fits, float-fits, rule-fits, whole-rule-fits}
+use Rattle.derived.proofs.Fitted.{Any, any-divides, fitting-fits, whole-fits, float-fits, rule-fits, whole-rule-fits}
 
 -- ---- a rule on whole categories
 
@@ -78,10 +78,10 @@ module _ {E : Type 0} (P : E → Type 0) where
 category-fits : (c : Component) (type : ℕ) → MaybeFits Whole (categoryRule c type)
 unfolding categoryRule
 category-fits C.Abs type = λ a b p q. fitting-fits _
-category-fits C.Add type = λ a b p q. whole-fits .add a b
-category-fits C.Subtract type = λ a b p q. whole-fits .sub a b
-category-fits C.Multiply type = λ a b p q. whole-fits .mul a b
-category-fits C.Divide type = λ a b p q. whole-fits .div a b
+category-fits C.Add type = λ a b p q. whole-fits .add a b p q
+category-fits C.Subtract type = λ a b p q. whole-fits .sub a b p q
+category-fits C.Multiply type = λ a b p q. whole-fits .mul a b p q
+category-fits C.Divide type = λ a b p q. whole-fits .div a b p q tt
 category-fits C.Modulo type = go (eqb type intType)
   where
     go : (t : Bool) → MaybeFits Whole (cond t (some modWhole) none)
@@ -313,7 +313,7 @@ module _ {F : Form} (laid : Laid F) where
         float-with xs absent n p q = absent-gives
         float-with xs (wholeRange ys) n p q = omega arith
         float-with xs (floatRange ys) n p q =
-            float-gives (rangePair (endRule float c) columns xs ys) (range-few Double (endRule float c) (rule-fits float Double float-fits c) xs ys n p q)
+            float-gives (rangePair (endRule float c) columns xs ys) (range-few Double (endRule float c) (λ x y p q. rule-fits float Double Double Any float-fits c x y (any-divides float y) p q) xs ys n p q)
         float-with xs (wholeLists ms) n p q = absent-gives
         float-with xs (boolLists ms) n p q = absent-gives
         float-with xs (floatLists ms) n p q = absent-gives
@@ -416,10 +416,10 @@ module _ {F : Form} (laid : Laid F) where
       unary-kept absent p = plain-kept absent absent-made refl refl
       unary-kept (wholeRange xs) p =
           whole-gives (Kept F) plain-kept (rangeAlone (endRule whole c) columns xs)
-          (alone-few Whole (endRule whole c) (rule-fits whole Whole whole-fits c) xs (p .entries) (p .fits))
+          (alone-few Whole (endRule whole c) (λ x y p q. rule-fits whole Whole Whole Any whole-fits c x y (any-divides whole y) p q) xs (p .entries) (p .fits))
       unary-kept (floatRange xs) p =
           float-gives (Kept F) plain-kept (rangeAlone (endRule float c) columns xs)
-          (alone-few Double (endRule float c) (rule-fits float Double float-fits c) xs (p .entries) (p .fits))
+          (alone-few Double (endRule float c) (λ x y p q. rule-fits float Double Double Any float-fits c x y (any-divides float y) p q) xs (p .entries) (p .fits))
       unary-kept (wholeLists ls) p = alone-kept ls (p .entries) (p .fits .values)
       unary-kept (boolLists ls) p = gives-checked (Kept F) _ (refused 22) refl (omega arith)
       unary-kept (floatLists ls) p = gives-checked (Kept F) _ (refused 22) refl (omega arith)

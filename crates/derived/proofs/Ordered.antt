@@ -33,6 +33,11 @@ Asked K C.Power y = Unit {0}
 Asked K C.Negative y = Unit {0}
 Asked K C.Pool y = Unit {0}
 
+-- a test that holds would make one hold that does not
+pub refuted : (s t : Bool) → (s ≡ true → t ≡ true) → t ≡ false → s ≡ false
+refuted true t h e = sym (h refl) ∙ e
+refuted false t h e = refl
+
 module _ {E : Type 0} (K : Kind E) (P : E → Type 0) where
   -- an entry of the numbers in question
   pub record Entry (x : Span E) : Type 0 where
@@ -64,7 +69,7 @@ module _ {E : Type 0} (K : Kind E) (P : E → Type 0) where
         → IfOk (λ s. (K .lt (K .zero) a ≡ true → K .lt (K .zero) s ≡ true) × (K .lt (K .zero) s ≡ true → K .lt (K .zero) c ≡ true)) (K .add a c)
     pub last : (d f : E) → Ends d f → K .lt (K .zero) d ≡ true → IfOk (λ u. K .lt u (K .zero) ≡ false) (K .last f)
 
-  entry-ends : (x : Span E) (a c : E) → Entry x → x .lower ≡ some a → x .upper ≡ some c → Ends a c
+  pub entry-ends : (x : Span E) (a c : E) → Entry x → x .lower ≡ some a → x .upper ≡ some c → Ends a c
   unfolding crossed
   entry-ends x a c p e f = record {
     lower = subst (Present P) e (p .ends .lower);
@@ -121,11 +126,6 @@ module _ {E : Type 0} (K : Kind E) (P : E → Type 0) where
   -- ---- Pool
 
   module _ (along : (a b c : E) → P a → P b → P c → K .lt a b ≡ true → K .lt b c ≡ true → K .lt a c ≡ true) where
-    -- a test that holds would make one hold that does not
-    refuted : (s t : Bool) → (s ≡ true → t ≡ true) → t ≡ false → s ≡ false
-    refuted true t h e = sym (h refl) ∙ e
-    refuted false t h e = refl
-
     pooled : (a c d f : E) → Ends a c → Ends d f → K .lt (greater K f c) (lesser K a d) ≡ false
     pooled a c d f p q = go (K .lt c f) (K .lt d a) refl refl
       where

@@ -1,20 +1,17 @@
 -- Of two entries that pass 5, the entry that Pool derives passes 5.
---     pool-whole, pool-float    of whole ranges, and of float ranges
+--     pool-whole, pool-float      of whole ranges, and of float ranges
 --     whole-entry, float-entry    what passes 5, as the laws of end rules take it
 -- Assumes nothing.
 use mathlib.Core.Path.{_≡_, refl, sym, ap, subst}
 use mathlib.Core.Bool.{Bool, true, false, not, _||_}
 use mathlib.Core.Option.{Option, none, some}
-use Prim.Native.Nat.{ℕ, zero, suc, _+_, _*_, _<_}
-use native.Mathlib.Nat.{mul-lt-mul-of-pos-right, lt-of-mul-lt-mul-right, mul-pos, mul-right-comm, zero-mul}
 use native.Mathlib.Omega.{arith}
 use lib.Dec.{T}
-use lib.Ieee.{Float, nan, inf, fin, up, down, below, lt}
+use lib.Ieee.{Float, lt}
 use lib.Ieee.Scale.{finite}
-use lib.IntN.{ℤ, pos, negsuc}
-use lib.Pow.{pow-pos}
+use lib.IntN.{ℤ}
 use lib.Signed.{ltZ}
-use borrow.Author.Tests.{ltb-true, lt-ltb, not-true, not-false}
+use borrow.Author.Tests.{not-true, not-false}
 use Rattle.numbers.specs.Kind.{Span, whole, float}
 use Rattle.numbers.proofs.Parts.{true-lt, lt-true}
 use Rattle.base.specs.Checks.{crossed, unbounded, wholeHolds, floatHolds}
@@ -23,63 +20,18 @@ use Rattle.ends.specs.Ends.{poolEnds}
 use Rattle.round_trip.specs.WellFormed.{Present, SpanFits}
 use Rattle.derived.proofs.Gives.{Gives, gives-more}
 use Rattle.derived.proofs.Values.{gives-besides}
-use Rattle.derived.proofs.Fitted.{pool-fits}
+use Rattle.derived.proofs.Fitted.{Any, pool-fits}
+use Rattle.derived.proofs.Fractions.{Finite, lt-through}
+use Rattle.derived.proofs.Rounded.{lt-back}
 use Rattle.derived.proofs.Ordered.{Ordered, Entry, pool-ordered}
 
 -- ---- the order of whole numbers, and of floats that are finite
 
--- of a whole number nothing is asked
-abbrev pub Any : ℤ → Type 0
-Any z = Unit {0}
-
 pub whole-along : (a b c : ℤ) → Any a → Any b → Any c → ltZ a b ≡ true → ltZ b c ≡ true → ltZ a c ≡ true
 whole-along a b c x y z p q = true-lt a c (omega (arith, lt-true a b p, lt-true b c q))
 
--- x / p < y / q < z / r
-ratios : (x y z p q r : ℕ) → 0 < p → 0 < r → x * q < y * p → y * r < z * q → x * r < z * p
-ratios x y z p q r hp hr h k =
-    let u : x * q * r < y * p * r = mul-lt-mul-of-pos-right h hr in
-    let v : y * r * p < z * q * p = mul-lt-mul-of-pos-right k hp in
-    lt-of-mul-lt-mul-right q (omega (arith, u, v, mul-right-comm x q r, mul-right-comm y p r, mul-right-comm z q p))
-
-above-none : (x y : ℕ) → 0 < x * y → 0 < x
-above-none zero y h = rw (zero-mul y) at h
-above-none (suc x) y h = omega arith
-
-below-along : (s t u : Bool) (x y z p q r : ℕ) → 0 < p → 0 < r → below s (x * q) t (y * p) ≡ true → below t (y * r) u (z * q) ≡ true → below s (x * r) u (z * p) ≡ true
-below-along false false false x y z p q r hp hr h k =
-    lt-ltb (x * r) (z * p) (ratios x y z p q r hp hr (ltb-true (x * q) (y * p) h) (ltb-true (y * r) (z * q) k))
-below-along false false true x y z p q r hp hr h k = absurd (subst T (sym k) tt)
-below-along false true u x y z p q r hp hr h k = absurd (subst T (sym h) tt)
-below-along true false false x y z p q r hp hr h k =
-    let n = ltb-true (y * r) (z * q) k in
-    let m = mul-pos (above-none z q (omega arith)) hp in
-    lt-ltb 0 (x * r + z * p) (omega arith)
-below-along true false true x y z p q r hp hr h k = absurd (subst T (sym k) tt)
-below-along true true false x y z p q r hp hr h k =
-    let n = ltb-true (y * p) (x * q) h in
-    let m = mul-pos (above-none x q (omega arith)) hr in
-    lt-ltb 0 (x * r + z * p) (omega arith)
-below-along true true true x y z p q r hp hr h k =
-    lt-ltb (z * p) (x * r) (ratios z y x r q p hr hp (ltb-true (z * q) (y * r) k) (ltb-true (y * p) (x * q) h))
-
-down-some : (e : ℤ) → 0 < down e
-down-some (pos k) = omega arith
-down-some (negsuc k) = pow-pos (suc k)
-
-abbrev pub Finite : Float → Type 0
-Finite x = T (finite x)
-
 pub float-along : (a b c : Float) → Finite a → Finite b → Finite c → lt a b ≡ true → lt b c ≡ true → lt a c ≡ true
-unfolding lt
-float-along nan b c x y z p q = absurd x
-float-along (inf s) b c x y z p q = absurd x
-float-along (fin s m e) nan c x y z p q = absurd y
-float-along (fin s m e) (inf t) c x y z p q = absurd y
-float-along (fin s m e) (fin t n d) nan x y z p q = absurd z
-float-along (fin s m e) (fin t n d) (inf u) x y z p q = absurd z
-float-along (fin s m e) (fin t n d) (fin u k g) x y z p q =
-    below-along s t u (m * up e) (n * up d) (k * up g) (down e) (down d) (down g) (down-some e) (down-some g) p q
+float-along a b c x y z p q = lt-through a b c x y z p (lt-back b c q)
 
 -- ---- an entry
 

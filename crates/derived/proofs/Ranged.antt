@@ -1,5 +1,5 @@
 -- The ranges of a derived sheet are what the end rules make of its operands' ranges, entry by entry; whatever else a component derives is no range.
---     derived-ranges    what the end rules give of entries, the sheet that a component derives has
+--     derived-ranges    what holds of entries under every end rule holds of every entry of a derived sheet, 16 of Modulo included
 -- Assumes nothing.
 use mathlib.Core.Path.{_≡_}
 use mathlib.Core.Bool.{true}
@@ -30,6 +30,7 @@ use Rattle.calls.specs.Derive.{deriveUnary, derivePair, deriveCopy, derivePool,
 use Rattle.round_trip.specs.WellFormed.{Each}
 use Rattle.derived.proofs.Each.{each-repeated, each-both, each-any, every-each}
 use Rattle.derived.proofs.Values.{IfOk, value-then, value-either, value-passed, value-after, each-values, pair-values}
+use Rattle.derived.proofs.Fitted.{Any}
 use Rattle.derived.proofs.Ordered.{Asked}
 
 -- P of every entry of a whole range, S of every entry of a float range
@@ -57,7 +58,7 @@ module _ {E : Type 0} (P P′ Q : Span E → Type 0) (rule : Span E → Span E �
 
 -- ---- what is asked of the right: nothing, or by 16 of Modulo a lower above 0
 
-any-right : (k : Nature) → OfEntries (λ y. Unit {0}) (λ y. Unit {0}) k
+any-right : (k : Nature) → OfEntries Any Any k
 any-right absent = tt
 any-right (wholeRange rs) = each-any rs
 any-right (floatRange rs) = each-any rs

@@ -9,7 +9,7 @@ use mathlib.Core.Logic.{inl, inr}
 use mathlib.Core.Option.{Option, none, some}
 use Prim.Native.Nat.{ℕ}
 use lib.Ieee as Ieee
-use lib.Ieee.{Float, nan, inf, fin, binary64, isNan}
+use lib.Ieee.{Float, binary64}
 use borrow.Author.Tests.{not-false}
 use Rattle.bytes.proofs.Reread.{AllBytes}
 use Rattle.bytes.proofs.SignBit.{flip-bits}
@@ -25,9 +25,11 @@ use Rattle.base.specs.Checks.{floatHolds, boundsFail, read}
 use Rattle.base.specs.Code.{codeOf}
 use Rattle.base.proofs.Passed.{passed-all}
 use Rattle.ends.specs.Ends.{both, present, fromOne, fromBoth, negEnds, absLower, absUpper, absEnds}
-use Rattle.ends.specs.Signs.{Number, NumberEnd, Numbers, copied, negated, negBits, absBitsOf, inBits, FromOne, FromOneEach, SignSteps}
+use Rattle.ends.specs.Signs.{NumberEnd, Numbers, copied, negated, negBits, absBitsOf, inBits, FromOne, FromOneEach, SignSteps}
 use Rattle.round_trip.specs.WellFormed.{Each, Present, Double, SpanFits, NatureFits}
-use Rattle.derived.proofs.Pooled.{Finite, float-entry}
+use Rattle.derived.proofs.Fractions.{Finite}
+use Rattle.derived.proofs.Rounded.{finite-number}
+use Rattle.derived.proofs.Pooled.{float-entry}
 use Rattle.derived.proofs.Decoded.{decoded-held}
 
 -- ---- an entry
@@ -77,12 +79,6 @@ sign-steps x p n = record {
 }
 
 -- ---- a sheet that passes 3 to 5
-
-finite-number : (x : Float) → Finite x → Number x
-unfolding isNan
-finite-number nan h = absurd h
-finite-number (inf s) h = tt
-finite-number (fin s m e) h = tt
 
 number-end : (o : Option Float) → Present Finite o → NumberEnd o
 number-end none h = tt

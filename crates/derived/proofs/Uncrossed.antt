@@ -1,4 +1,4 @@
--- 02, S-4: no rule inverts a range. Every whole range in a sheet that a component derives, of operands that pass 5, passes 5.
+-- With 02, S-4's Subtract no rule inverts a range: every whole range in a sheet that a component derives, of operands that pass 5, passes 5.
 --     derived-whole    under all ten components, in any stored form, whatever else the operands hold
 --     modulo-alone     of Modulo 16 is needed: its end rule alone inverts a range
 -- Assumes nothing.
@@ -9,7 +9,6 @@ use mathlib.Core.Option.{some}
 use Prim.Native.Nat.{ℕ, _^_}
 use native.Mathlib.Omega.{arith}
 use lib.Dec.{ltb}
-use lib.Ieee.{Float}
 use lib.IntN.{ℤ, pos, negsuc, negℤ, _+ℤ_, _-ℤ_}
 use lib.Signed.{mag}
 use borrow.Author.Tests.{not-false}
@@ -30,9 +29,9 @@ use Rattle.calls.specs.Derive.{derive}
 use Rattle.round_trip.specs.WellFormed.{Each}
 use Rattle.derived.proofs.Each.{each-weaken, each-any, every-each, each-every}
 use Rattle.derived.proofs.Values.{IfOk, value-is, any-value}
-use Rattle.derived.proofs.Fitted.{whole-rule-is}
+use Rattle.derived.proofs.Fitted.{Any, whole-rule-is}
 use Rattle.derived.proofs.Ordered.{Ordered, Asked, Entry, KindOrdered, rule-ordered}
-use Rattle.derived.proofs.Pooled.{Any, whole-along, whole-entry}
+use Rattle.derived.proofs.Pooled.{whole-along, whole-entry}
 use Rattle.derived.proofs.Ranged.{OfEntries, derived-ranges}
 
 -- ---- whole numbers, whose results are exact or refused
@@ -73,11 +72,7 @@ rule-keeps c type x y p q h = whole-rule-is (λ g. IfOk (Ordered whole) g) c typ
 
 -- ---- 5 of a sheet
 
--- of float ranges nothing is said here
-abbrev Floats : Span Float → Type 0
-Floats x = Unit {0}
-
-operand : (k : Nature) → boundsFail k ≡ false → OfEntries (Entry whole Any) Floats k
+operand : (k : Nature) → boundsFail k ≡ false → OfEntries (Entry whole Any) Any k
 unfolding boundsFail
 operand absent e = tt
 operand (wholeRange rs) e =
@@ -95,11 +90,11 @@ passes zs h = ap not (each-every wholeHolds zs (each-weaken (Ordered whole) (λ 
 pub derived-whole : (F : Form) (c : Component) (l r s : Sheet) → boundsFail (l .nature) ≡ false → boundsFail (r .nature) ≡ false → derive F c l r ≡ ok s
     → (zs : List (Span ℤ)) → s .nature ≡ wholeRange zs → boundsFail (s .nature) ≡ false
 derived-whole F c l r s p q e zs k =
-    let law = derived-ranges (Entry whole Any) (Ordered whole) Floats Floats rule-keeps (λ c x y p q h. any-value (endRule float c x y)) F c l r (operand (l .nature) p) (operand (r .nature) q) in
-    let h = value-is (λ t. OfEntries (Ordered whole) Floats (t .nature)) (derive F c l r) law e in
-    rw k (passes zs (subst (OfEntries (Ordered whole) Floats) k h))
+    let law = derived-ranges (Entry whole Any) (Ordered whole) Any Any rule-keeps (λ c x y p q h. any-value (endRule float c x y)) F c l r (operand (l .nature) p) (operand (r .nature) q) in
+    let h = value-is (λ t. OfEntries (Ordered whole) Any (t .nature)) (derive F c l r) law e in
+    rw k (passes zs (subst (OfEntries (Ordered whole) Any) k h))
 
--- 02, S-4's example: [1, 2] by [-5, 0] has the ends [0, -1]
+-- [1, 2] by [-5, 0] has the ends [0, -1]
 pub modulo-alone :
     (endRule whole C.Modulo (spanOf (some (pos 1)) (some (pos 2))) (spanOf (some (negsuc 4)) (some (pos 0))) ≡ ok (spanOf (some (pos 0)) (some (negsuc 0))))
     × (wholeHolds (spanOf (some (pos 0)) (some (negsuc 0))) ≡ false)

@@ -19,6 +19,10 @@ module _ {X : Type 0} (P : X → Type 0) where
   value-is (ok x) p e = subst P (ok-same e) p
   value-is (refused k) p e = absurd (never (sym e))
 
+  pub gives-value : (g : Result X) → Gives P g → IfOk P g
+  gives-value (ok x) p = p
+  gives-value (refused k) p = tt
+
   -- of an answer whose refusals are numbered
   pub gives-besides : (Q : X → Type 0) (g : Result X) → Gives Q g → IfOk P g → Gives (λ x. Q x × P x) g
   gives-besides Q (ok x) q p = (q, p)
