@@ -4,6 +4,7 @@ pub mod Gives
 pub mod Values
 pub mod Each
 pub mod Fitted
+pub mod Natures
 pub mod Fractions
 pub mod Rounded
 pub mod Ordered

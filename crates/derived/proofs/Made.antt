@@ -2,7 +2,7 @@
 --     unary-kept, binary-kept    of all components but Pool: `Kept` to the limits of categories and of text
 --     pool-made, made-kept       of Pool: `Made` however many they are, and then kept to the limits
 -- Assumes nothing.
-use mathlib.Core.Path.{_≡_, refl}
+use mathlib.Core.Path.{_≡_, refl, subst}
 use mathlib.Core.Bool.{Bool, true, false, cond}
 use mathlib.Core.List.{List, [], _∷_, _++_, map}
 use mathlib.Core.Option.{Option, none, some}
@@ -28,12 +28,13 @@ use Rattle.base.specs.declared.Component.the-variants as C
 use Rattle.ends.specs.Ends.{endRule}
 use Rattle.ends.specs.Ranges.{wholeRule, rangePair, rangeAlone}
 use Rattle.category_lists.specs.Categories.{remainder, modWhole, powerWhole, categoryRule, ruled, textRule, sameText, pairs, product, combined, mapped, union, united, keptTo, textKept, kept, limited}
-use Rattle.calls.specs.Natures.{wholeListsOf, boolListsOf, textListsOf, unitedNature, listsUnited, combinedNature, listsPair, listsAlone, wholeRangeWith, floatRangeWith, listsWith, twoNatures, binaryNature, poolNature, unaryNature}
+use Rattle.calls.specs.Natures.{wholeListsOf, boolListsOf, textListsOf, unitedNature, listsUnited, combinedNature, listsPair, listsAlone, twoNatures, binaryNature, poolNature, unaryNature}
 use Rattle.round_trip.specs.WellFormed.{Each, Whole, Double, Bits, Byte, SpanFits, NatureFits}
 use Rattle.derived.specs.Held.{ValuesAllowed}
 use Rattle.derived.proofs.Answers.{checked-rest}
 use Rattle.derived.proofs.Each.{each-append, each-repeated, each-weaken, each-firsts, each-map, repeated-within, each-length, pair-length}
 use Rattle.derived.proofs.Gives.{Gives, gives-more, gives-then, gives-checked, each-gives, pair-gives}
+use Rattle.derived.proofs.Natures.{two-natures}
 use Rattle.derived.proofs.Fitted.{Any, any-divides, fitting-fits, whole-fits, float-fits, rule-fits, whole-rule-fits}
 
 -- ---- a rule on whole categories
@@ -294,50 +295,20 @@ module _ {F : Form} (laid : Laid F) where
       float-gives : (g : Result (List (Span Float))) → Gives (Few F (SpanFits Double)) g → Gives Q (andThen g (λ zs. ok (floatRange zs)))
       float-gives g h = gives-then (Few F (SpanFits Double)) Q g _ h (λ zs f. plain (floatRange zs) (record { entries = f .0; fits = f .1; allowed = tt }) refl refl)
 
-      module _ (c : Component) (type : ℕ) (together : Nature → Nature → Result Nature) where
-        whole-with : (xs : List (Span ℤ)) (r : Nature) → length xs ≤ F .listLimit → Each (SpanFits Whole) xs → NatureFits F r
-            → Gives Q (wholeRangeWith c type columns together xs r)
-        unfolding wholeRangeWith
-        whole-with xs absent n p q = absent-gives
-        whole-with xs (wholeRange ys) n p q =
-            whole-gives (rangePair (wholeRule c type) columns xs ys) (range-few Whole (wholeRule c type) (whole-rule-fits c type) xs ys n p q)
-        whole-with xs (floatRange ys) n p q = omega arith
-        whole-with xs (wholeLists ms) n p q = absent-gives
-        whole-with xs (boolLists ms) n p q = absent-gives
-        whole-with xs (floatLists ms) n p q = absent-gives
-        whole-with xs (textLists ms) n p q = absent-gives
-
-        float-with : (xs : List (Span Float)) (r : Nature) → length xs ≤ F .listLimit → Each (SpanFits Double) xs → NatureFits F r
-            → Gives Q (floatRangeWith c type columns together xs r)
-        unfolding floatRangeWith
-        float-with xs absent n p q = absent-gives
-        float-with xs (wholeRange ys) n p q = omega arith
-        float-with xs (floatRange ys) n p q =
-            float-gives (rangePair (endRule float c) columns xs ys) (range-few Double (endRule float c) (λ x y p q. rule-fits float Double Double Any float-fits c x y (any-divides float y) p q) xs ys n p q)
-        float-with xs (wholeLists ms) n p q = absent-gives
-        float-with xs (boolLists ms) n p q = absent-gives
-        float-with xs (floatLists ms) n p q = absent-gives
-        float-with xs (textLists ms) n p q = absent-gives
-
-        lists-with : (l r : Nature) → Gives Q (together l r) → Gives Q (listsWith c type columns together l r)
-        unfolding listsWith
-        lists-with l absent h = absent-gives
-        lists-with l (wholeRange ys) h = absent-gives
-        lists-with l (floatRange ys) h = absent-gives
-        lists-with l (wholeLists ms) h = h
-        lists-with l (boolLists ms) h = h
-        lists-with l (floatLists ms) h = h
-        lists-with l (textLists ms) h = h
-
-        two-give : (l r : Nature) → Made F l → Made F r → Gives Q (together l r) → Gives Q (twoNatures c type columns together l r)
-        unfolding twoNatures
-        two-give absent r p q h = absent-gives
-        two-give (wholeRange xs) r p q h = whole-with xs r (p .entries) (p .fits) (q .fits)
-        two-give (floatRange xs) r p q h = float-with xs r (p .entries) (p .fits) (q .fits)
-        two-give (wholeLists ls) r p q h = lists-with (wholeLists ls) r h
-        two-give (boolLists ls) r p q h = lists-with (boolLists ls) r h
-        two-give (floatLists ls) r p q h = lists-with (floatLists ls) r h
-        two-give (textLists ls) r p q h = lists-with (textLists ls) r h
+      two-give : (c : Component) (type : ℕ) (together : Nature → Nature → Result Nature) (l r : Nature) → Made F l → Made F r → Gives Q (together l r)
+          → Gives Q (twoNatures c type columns together l r)
+      two-give c type together l r p q h =
+          two-natures (λ g. Gives Q g) c type columns together absent-gives (omega arith) l r
+          (λ xs ys e f.
+          let a = subst (Made F) e p in
+          let b = subst (Made F) f q in
+          whole-gives (rangePair (wholeRule c type) columns xs ys) (range-few Whole (wholeRule c type) (whole-rule-fits c type) xs ys (a .entries) (a .fits) (b .fits)))
+          (λ xs ys e f.
+          let a = subst (Made F) e p in
+          let b = subst (Made F) f q in
+          float-gives (rangePair (endRule float c) columns xs ys)
+          (range-few Double (endRule float c) (λ x y p q. rule-fits float Double Double Any float-fits c x y (any-divides float y) p q) xs ys (a .entries) (a .fits) (b .fits)))
+          h
 
     -- ---- Pool
 

@@ -1,7 +1,7 @@
 -- The ranges of a derived sheet are what the end rules make of its operands' ranges, entry by entry; whatever else a component derives is no range.
 --     derived-ranges    what holds of entries under every end rule holds of every entry of a derived sheet, 16 of Modulo included
 -- Assumes nothing.
-use mathlib.Core.Path.{_≡_}
+use mathlib.Core.Path.{_≡_, subst}
 use mathlib.Core.Bool.{true}
 use mathlib.Core.List.{List}
 use mathlib.Core.Option.{Option, none, some}
@@ -25,12 +25,13 @@ use Rattle.category_lists.specs.Categories.{categoryRule, textRule, sameText, r
 use Rattle.shape.specs.Shape.{columnsOf, widest, rowsSum}
 use Rattle.orders.specs.Orders.{unaryChecks, pairChecks, copyChecks, lastChecks, poolChecks}
 use Rattle.orders.proofs.Passing.{Passing}
-use Rattle.calls.specs.Natures.{ruleFor, wholeListsOf, boolListsOf, textListsOf, listChecks, bothListChecks, unitedNature, listsUnited, combinedNature, listsPair, listsAlone, wholeRangeWith, floatRangeWith, listsWith, twoNatures, binaryNature, poolNature, unaryNature}
+use Rattle.calls.specs.Natures.{ruleFor, wholeListsOf, boolListsOf, textListsOf, listChecks, bothListChecks, unitedNature, listsUnited, combinedNature, listsPair, listsAlone, twoNatures, binaryNature, poolNature, unaryNature}
 use Rattle.calls.specs.Derive.{deriveUnary, derivePair, deriveCopy, derivePool, derive}
 use Rattle.round_trip.specs.WellFormed.{Each}
 use Rattle.derived.proofs.Each.{each-repeated, each-both, each-any, every-each}
 use Rattle.derived.proofs.Values.{IfOk, value-then, value-either, value-passed, value-after, each-values, pair-values}
 use Rattle.derived.proofs.Fitted.{Any}
+use Rattle.derived.proofs.Natures.{two-natures}
 use Rattle.derived.proofs.Ordered.{Asked}
 
 -- P of every entry of a whole range, S of every entry of a float range
@@ -141,50 +142,21 @@ module _ (P Q : Span ℤ → Type 0) (S T : Span Float → Type 0)
 
     -- ---- two natures, of which two categories make no range together
 
-    module _ (together : Nature → Nature → Result Nature) where
-      whole-with : (xs : List (Span ℤ)) (r : Nature) → Each P xs → Operand r → Right r → IfOk Derived (wholeRangeWith c type columns together xs r)
-      unfolding wholeRangeWith
-      whole-with xs absent p q h = tt
-      whole-with xs (wholeRange ys) p q h =
-          value-then (Each Q) Derived (rangePair (wholeRule c type) columns xs ys) _
-          (range-values P (λ y. P y × Asked whole c y) Q (wholeRule c type) columns (λ x y p q. wholes c type x y p (q .0) (q .1)) xs ys p (each-both P (Asked whole c) ys q h)) (λ zs r. r)
-      whole-with xs (floatRange ys) p q h = tt
-      whole-with xs (wholeLists ms) p q h = tt
-      whole-with xs (boolLists ms) p q h = tt
-      whole-with xs (floatLists ms) p q h = tt
-      whole-with xs (textLists ms) p q h = tt
-
-      float-with : (xs : List (Span Float)) (r : Nature) → Each S xs → Operand r → Right r → IfOk Derived (floatRangeWith c type columns together xs r)
-      unfolding floatRangeWith
-      float-with xs absent p q h = tt
-      float-with xs (wholeRange ys) p q h = tt
-      float-with xs (floatRange ys) p q h =
-          value-then (Each T) Derived (rangePair (endRule float c) columns xs ys) _
-          (range-values S (λ y. S y × Asked float c y) T (endRule float c) columns (λ x y p q. floats c x y p (q .0) (q .1)) xs ys p (each-both S (Asked float c) ys q h)) (λ zs r. r)
-      float-with xs (wholeLists ms) p q h = tt
-      float-with xs (boolLists ms) p q h = tt
-      float-with xs (floatLists ms) p q h = tt
-      float-with xs (textLists ms) p q h = tt
-
-      lists-with : (l r : Nature) → IfOk Derived (together l r) → IfOk Derived (listsWith c type columns together l r)
-      unfolding listsWith
-      lists-with l absent h = tt
-      lists-with l (wholeRange ys) h = tt
-      lists-with l (floatRange ys) h = tt
-      lists-with l (wholeLists ms) h = h
-      lists-with l (boolLists ms) h = h
-      lists-with l (floatLists ms) h = h
-      lists-with l (textLists ms) h = h
-
-      two-values : (l r : Nature) → Operand l → Operand r → Right r → IfOk Derived (together l r) → IfOk Derived (twoNatures c type columns together l r)
-      unfolding twoNatures
-      two-values absent r p q h k = tt
-      two-values (wholeRange xs) r p q h k = whole-with xs r p q h
-      two-values (floatRange xs) r p q h k = float-with xs r p q h
-      two-values (wholeLists ls) r p q h k = lists-with (wholeLists ls) r k
-      two-values (boolLists ls) r p q h k = lists-with (boolLists ls) r k
-      two-values (floatLists ls) r p q h k = lists-with (floatLists ls) r k
-      two-values (textLists ls) r p q h k = lists-with (textLists ls) r k
+    two-values : (together : Nature → Nature → Result Nature) (l r : Nature) → Operand l → Operand r → Right r → IfOk Derived (together l r)
+        → IfOk Derived (twoNatures c type columns together l r)
+    two-values together l r p q h k =
+        two-natures (λ g. IfOk Derived g) c type columns together tt tt l r
+        (λ xs ys e f.
+        value-then (Each Q) Derived (rangePair (wholeRule c type) columns xs ys) _
+        (range-values P (λ y. P y × Asked whole c y) Q (wholeRule c type) columns (λ x y p q. wholes c type x y p (q .0) (q .1)) xs ys (subst Operand e p)
+        (each-both P (Asked whole c) ys (subst Operand f q) (subst Right f h)))
+        (λ zs m. m))
+        (λ xs ys e f.
+        value-then (Each T) Derived (rangePair (endRule float c) columns xs ys) _
+        (range-values S (λ y. S y × Asked float c y) T (endRule float c) columns (λ x y p q. floats c x y p (q .0) (q .1)) xs ys (subst Operand e p)
+        (each-both S (Asked float c) ys (subst Operand f q) (subst Right f h)))
+        (λ zs m. m))
+        k
 
     binary-values : (F : Form) (l r : Nature) → Operand l → Operand r → Right r → IfOk Derived (binaryNature F c type columns l r)
     unfolding listsPair
