@@ -1,22 +1,24 @@
 -- With 02, S-4's Subtract a float range that a component derives, of operands that pass 5, fails 5 by an infinite end alone.
---     derived-float    under all ten components, in any stored form; the operands' float ends are doubles. (Below the smallest double above 0, the sum that Abs
---                      takes may round to 0.)
+--     derived-float    under all ten components, in any stored form; the operands' float ends are doubles
+--     abs-alone        of other floats it is false: the sum that Abs takes may round to 0
 -- Assumes nothing.
 use mathlib.Core.Path.{_≡_, refl, subst}
 use mathlib.Core.Bool.{Bool, true, false, cond, not, _||_}
 use mathlib.Core.List.{List, [], _∷_}
 use mathlib.Core.Option.{Option, none, some}
-use lib.Ieee.{Float, nan, inf, fin, isNan}
+use lib.Ieee.{Float, nan, inf, fin, neg, add, lt, isNan}
+use lib.IntN.{negsuc}
 use borrow.Author.Tests.{not-false}
 use Rattle.numbers.specs.Result.{ok}
-use Rattle.numbers.specs.Kind.{Span, float}
+use Rattle.numbers.specs.Kind.{Span, spanOf, float}
 use Rattle.utilities.specs.Lists.{every, any}
 use Rattle.base.specs.Form.{Form}
 use Rattle.base.specs.Sheet.{Nature, absent, wholeRange, floatRange, wholeLists, boolLists, floatLists, textLists, Sheet}
 use Rattle.base.specs.Checks.{unbounded, floatHolds, boundsFail}
 use Rattle.base.specs.declared.Component.{Component}
+use Rattle.base.specs.declared.Component.the-variants as C
 use Rattle.ends.specs.Signs.{Number, NumberEnd, Numbers}
-use Rattle.ends.specs.Ends.{endRule}
+use Rattle.ends.specs.Ends.{fromBoth, absLower, absUpper, absEnds, endRule}
 use Rattle.ends.specs.Ranges.{wholeRule}
 use Rattle.calls.specs.Derive.{derive}
 use Rattle.round_trip.specs.WellFormed.{Each, Present, Double, SpanFits, NatureFits}
@@ -99,12 +101,24 @@ by-infinity zs h = record {
   fails = fails-is zs h;
 }
 
+-- a derived sheet's float entries
+abbrev DerivedEntries : Sheet → Type 0
+DerivedEntries s = OfEntries Any (Entry float Number) (s .nature)
+
+entries : (F : Form) (c : Component) (l r : Sheet) → OfEntries Any (Entry float FiniteDouble) (l .nature) → OfEntries Any (Entry float FiniteDouble) (r .nature)
+    → IfOk DerivedEntries (derive F c l r)
+entries = derived-ranges Any Any (Entry float FiniteDouble) (Entry float Number) (λ c type x y p q h. any-value (wholeRule c type x y)) rule-keeps
+
 pub derived-float : (F : Form) (c : Component) (l r s : Sheet) → NatureFits F (l .nature) → NatureFits F (r .nature)
     → boundsFail (l .nature) ≡ false → boundsFail (r .nature) ≡ false → derive F c l r ≡ ok s
     → (zs : List (Span Float)) → s .nature ≡ floatRange zs → FailsByInfinity zs
 derived-float F c l r s v w p q e zs k =
-    let law =
-    derived-ranges Any Any (Entry float FiniteDouble) (Entry float Number) (λ c type x y p q h. any-value (wholeRule c type x y)) rule-keeps F c l r
-    (operand F (l .nature) v p) (operand F (r .nature) w q) in
-    let h = value-is (λ t. OfEntries Any (Entry float Number) (t .nature)) (derive F c l r) law e in
+    let h = value-is DerivedEntries (derive F c l r) (entries F c l r (operand F (l .nature) v p) (operand F (r .nature) w q)) e in
     by-infinity zs (subst (OfEntries Any (Entry float Number)) k h)
+
+-- 2 ^ -1080 lies between 0 and the smallest double above it
+pub abs-alone :
+    let x = fin false 1 (negsuc 1079) in
+    (endRule float C.Abs (spanOf (some x) (some x)) (spanOf (some x) (some x)) ≡ ok (spanOf (some x) (some (neg x)))) × (lt (neg x) x ≡ true)
+unfolding endRule absEnds fromBoth absLower absUpper add neg lt
+abs-alone = (refl, refl)

@@ -87,11 +87,17 @@ passes : (zs : List (Span ℤ)) → Each (Ordered whole) zs → boundsFail (whol
 unfolding boundsFail
 passes zs h = ap not (each-every wholeHolds zs (each-weaken (Ordered whole) (λ z. wholeHolds z ≡ true) (λ z e. ap not e) zs h))
 
+-- a derived sheet's whole entries
+abbrev DerivedEntries : Sheet → Type 0
+DerivedEntries s = OfEntries (Ordered whole) Any (s .nature)
+
+entries : (F : Form) (c : Component) (l r : Sheet) → OfEntries (Entry whole Any) Any (l .nature) → OfEntries (Entry whole Any) Any (r .nature) → IfOk DerivedEntries (derive F c l r)
+entries = derived-ranges (Entry whole Any) (Ordered whole) Any Any rule-keeps (λ c x y p q h. any-value (endRule float c x y))
+
 pub derived-whole : (F : Form) (c : Component) (l r s : Sheet) → boundsFail (l .nature) ≡ false → boundsFail (r .nature) ≡ false → derive F c l r ≡ ok s
     → (zs : List (Span ℤ)) → s .nature ≡ wholeRange zs → boundsFail (s .nature) ≡ false
 derived-whole F c l r s p q e zs k =
-    let law = derived-ranges (Entry whole Any) (Ordered whole) Any Any rule-keeps (λ c x y p q h. any-value (endRule float c x y)) F c l r (operand (l .nature) p) (operand (r .nature) q) in
-    let h = value-is (λ t. OfEntries (Ordered whole) Any (t .nature)) (derive F c l r) law e in
+    let h = value-is DerivedEntries (derive F c l r) (entries F c l r (operand (l .nature) p) (operand (r .nature) q)) e in
     rw k (passes zs (subst (OfEntries (Ordered whole) Any) k h))
 
 -- [1, 2] by [-5, 0] has the ends [0, -1]
