@@ -12,13 +12,13 @@ use borrow.Author.Tests.{ne-eqb}
 use Rattle.numbers.specs.Result.{ok}
 use Rattle.numbers.specs.Kind.{Span, whole, spanOf}
 use Rattle.numbers.proofs.Parts.{le-parts, parts-le, lt-true, lt-false}
-use Rattle.base.specs.Form.{intType}
 use Rattle.base.specs.declared.Component.{Component}
 use Rattle.base.specs.declared.Component.the-variants as C
-use Rattle.ends.specs.Ends.{endRule, unknown}
+use Rattle.ends.specs.Ends.{endRule}
 use Rattle.ends.specs.Ranges.{wholeRule}
 use Rattle.category_lists.specs.Categories.{remainder}
 use Rattle.derived.proofs.Answers.{some-same, none-some}
+use Rattle.derived.proofs.Fitted.{whole-rule-is}
 use Rattle.containment.specs.Exact.{Side, taken, unlessZero, exact}
 use Rattle.containment.specs.Demand.{AtLeast, AtMost, InSpan, SpanOffZero}
 use Rattle.containment.specs.Asks.{Defined, Asks, LowerAboveZero, LowerNotNegative}
@@ -124,18 +124,5 @@ module _ (side : Side) (x y z : Span ℤ) (a b v : ℤ) where
   -- of another type than Int, Modulo's ends are absent
   pub whole-keeps : (c : Component) (type : ℕ) → Asks c (some y) → wholeRule c type x y ≡ ok z
       → InSpan (some x) a → InSpan (some y) b → exact side c a b ≡ some v → InSpan (some z) v
-  unfolding wholeRule
-  whole-keeps C.Abs type k e p q w = entry-keeps C.Abs k e p q w
-  whole-keeps C.Add type k e p q w = entry-keeps C.Add k e p q w
-  whole-keeps C.Subtract type k e p q w = entry-keeps C.Subtract k e p q w
-  whole-keeps C.Multiply type k e p q w = entry-keeps C.Multiply k e p q w
-  whole-keeps C.Divide type k e p q w = entry-keeps C.Divide k e p q w
-  whole-keeps C.Modulo type k e p q w = go (eqb type intType) e
-    where
-      go : (t : Bool) → cond t (endRule whole C.Modulo x y) unknown ≡ ok z → InSpan (some z) v
-      go true e = entry-keeps C.Modulo k e p q w
-      go false e = nothing z v e
-  whole-keeps C.Log type k e p q w = entry-keeps C.Log k e p q w
-  whole-keeps C.Power type k e p q w = entry-keeps C.Power k e p q w
-  whole-keeps C.Negative type k e p q w = entry-keeps C.Negative k e p q w
-  whole-keeps C.Pool type k e p q w = entry-keeps C.Pool k e p q w
+  whole-keeps c type k e p q w =
+      whole-rule-is (λ g. g ≡ ok z → InSpan (some z) v) c type x y (λ f. entry-keeps c k f p q w) (λ f. nothing z v f) e
