@@ -30,58 +30,58 @@ use Rattle.containment.proofs.Lists.{each-found, product-found, paired-
 
 -- ---- what is admitted
 
-pub admitted-asks : (c : Component) (xs ys : List (Span ℤ)) (j : ℕ) → Admitted c (wholeRange xs) (wholeRange ys) j → Asks c (entryFor ys j)
-admitted-asks C.Abs xs ys j k = tt
-admitted-asks C.Add xs ys j k = tt
-admitted-asks C.Subtract xs ys j k = tt
-admitted-asks C.Multiply xs ys j k = tt
-admitted-asks C.Divide xs ys j k = k
-admitted-asks C.Modulo xs ys j k = k
-admitted-asks C.Log xs ys j k = k
-admitted-asks C.Power xs ys j k = k
-admitted-asks C.Negative xs ys j k = tt
-admitted-asks C.Pool xs ys j k = tt
+pub admitted-asks : (c : Component) (ys : List (Span ℤ)) (j : ℕ) → Admitted c (wholeRange ys) j → Asks c (entryFor ys j)
+admitted-asks C.Abs ys j k = tt
+admitted-asks C.Add ys j k = tt
+admitted-asks C.Subtract ys j k = tt
+admitted-asks C.Multiply ys j k = tt
+admitted-asks C.Divide ys j k = k
+admitted-asks C.Modulo ys j k = k
+admitted-asks C.Log ys j k = k
+admitted-asks C.Power ys j k = k
+admitted-asks C.Negative ys j k = tt
+admitted-asks C.Pool ys j k = tt
 
 list-off-zero : (o : Option (List ℤ)) (b : ℤ) → ListOffZero o → InList o b → natAbs b ≡ 0 → ⊥
 list-off-zero none b z q e = z
 list-off-zero (some l) b z q e = z (Memᴰ·cast (sym (abs-zero b e)) q)
 
 -- a divisor or an exponent that keeps to the right nature has a result
-pub admitted-defined : (c : Component) (l r : Nature) (j : ℕ) (b : ℤ) → Admitted c l r j → Keeps r j b → Defined c b
-admitted-defined C.Abs l r j b k q = tt
-admitted-defined C.Add l r j b k q = tt
-admitted-defined C.Subtract l r j b k q = tt
-admitted-defined C.Multiply l r j b k q = tt
-admitted-defined C.Divide l absent j b k q = absurd k
-admitted-defined C.Divide l (wholeRange rs) j b k q = span-defined C.Divide (entryFor rs j) b k q
-admitted-defined C.Divide l (floatRange rs) j b k q = absurd k
-admitted-defined C.Divide l (wholeLists ls) j b k q = list-off-zero (entryFor ls j) b k q
-admitted-defined C.Divide l (boolLists ls) j b k q = absurd k
-admitted-defined C.Divide l (floatLists ls) j b k q = absurd k
-admitted-defined C.Divide l (textLists ls) j b k q = absurd k
-admitted-defined C.Modulo l absent j b k q = absurd k
-admitted-defined C.Modulo l (wholeRange rs) j b k q = span-defined C.Modulo (entryFor rs j) b k q
-admitted-defined C.Modulo l (floatRange rs) j b k q = absurd k
-admitted-defined C.Modulo l (wholeLists ls) j b k q = absurd k
-admitted-defined C.Modulo l (boolLists ls) j b k q = absurd k
-admitted-defined C.Modulo l (floatLists ls) j b k q = absurd k
-admitted-defined C.Modulo l (textLists ls) j b k q = absurd k
-admitted-defined C.Log l r j b k q = k
-admitted-defined C.Power l absent j b k q = absurd k
-admitted-defined C.Power l (wholeRange rs) j b k q = span-defined C.Power (entryFor rs j) b k q
-admitted-defined C.Power l (floatRange rs) j b k q = absurd k
-admitted-defined C.Power l (wholeLists ls) j b k q = absurd k
-admitted-defined C.Power l (boolLists ls) j b k q = absurd k
-admitted-defined C.Power l (floatLists ls) j b k q = absurd k
-admitted-defined C.Power l (textLists ls) j b k q = absurd k
-admitted-defined C.Negative l r j b k q = tt
-admitted-defined C.Pool l r j b k q = tt
+pub admitted-defined : (c : Component) (r : Nature) (j : ℕ) (b : ℤ) → Admitted c r j → Keeps r j b → Defined c b
+admitted-defined C.Abs r j b k q = tt
+admitted-defined C.Add r j b k q = tt
+admitted-defined C.Subtract r j b k q = tt
+admitted-defined C.Multiply r j b k q = tt
+admitted-defined C.Divide absent j b k q = absurd k
+admitted-defined C.Divide (wholeRange rs) j b k q = span-defined C.Divide (entryFor rs j) b k q
+admitted-defined C.Divide (floatRange rs) j b k q = absurd k
+admitted-defined C.Divide (wholeLists ls) j b k q = list-off-zero (entryFor ls j) b k q
+admitted-defined C.Divide (boolLists ls) j b k q = absurd k
+admitted-defined C.Divide (floatLists ls) j b k q = absurd k
+admitted-defined C.Divide (textLists ls) j b k q = absurd k
+admitted-defined C.Modulo absent j b k q = absurd k
+admitted-defined C.Modulo (wholeRange rs) j b k q = span-defined C.Modulo (entryFor rs j) b k q
+admitted-defined C.Modulo (floatRange rs) j b k q = absurd k
+admitted-defined C.Modulo (wholeLists ls) j b k q = absurd k
+admitted-defined C.Modulo (boolLists ls) j b k q = absurd k
+admitted-defined C.Modulo (floatLists ls) j b k q = absurd k
+admitted-defined C.Modulo (textLists ls) j b k q = absurd k
+admitted-defined C.Log r j b k q = k
+admitted-defined C.Power absent j b k q = absurd k
+admitted-defined C.Power (wholeRange rs) j b k q = span-defined C.Power (entryFor rs j) b k q
+admitted-defined C.Power (floatRange rs) j b k q = absurd k
+admitted-defined C.Power (wholeLists ls) j b k q = absurd k
+admitted-defined C.Power (boolLists ls) j b k q = absurd k
+admitted-defined C.Power (floatLists ls) j b k q = absurd k
+admitted-defined C.Power (textLists ls) j b k q = absurd k
+admitted-defined C.Negative r j b k q = tt
+admitted-defined C.Pool r j b k q = tt
 
 -- ---- what is derived
 
 pub record Derived (side : Side) (c : Component) (columns : ℕ) (l r k : Nature) : Type 0 where
   pub fits : Fitting k columns
-  pub keeps : (j : ℕ) → j < columns → (a b v : ℤ) → Admitted c l r j → Keeps l j a → Keeps r j b → exact side c a b ≡ some v → Keeps k j v
+  pub keeps : (j : ℕ) → j < columns → (a b v : ℤ) → Admitted c r j → Keeps l j a → Keeps r j b → exact side c a b ≡ some v → Keeps k j v
 
 ruled-inv : {X : Type 0} (o : Option (ℤ → ℤ → Result ℤ)) (rest : (ℤ → ℤ → Result ℤ) → Result X) {x : X} → ruled o rest ≡ ok x
     → (rule : ℤ → ℤ → Result ℤ) × (o ≡ some rule) × (rest rule ≡ ok x)
@@ -99,7 +99,7 @@ module _ (side : Side) (c : Component) (type columns : ℕ) where
       subst (λ (k : Nature). Derived side c columns (wholeRange xs) (wholeRange ys) k) (ok-same (s .after))
       (record {
         fits = inr (pair-many side c columns xs ys (s .value) type (s .is));
-        keeps = λ j h a b v q p t w. pair-keeps side c columns xs ys (s .value) type j a b v (s .is) h (admitted-asks c xs ys j q) p t w;
+        keeps = λ j h a b v q p t w. pair-keeps side c columns xs ys (s .value) type j a b v (s .is) h (admitted-asks c ys j q) p t w;
       })
 
   -- what two category operands make

@@ -112,7 +112,7 @@ good-made s n f e o k g =
 -- a step's node, of its operands' nodes and of the nature derived
 module _ (side : Side) (c : Component) (l r s : Sheet) (xs ys : Results) (n : ℕ) where
   pub good-step : Good l xs → Good r ys → s .fields .columns ≡ some n → 1 ≤ n → Derived side c n (l .nature) (r .nature) (s .nature)
-      → ((j : ℕ) → j < n → Reaches (length xs) j) → ((j : ℕ) → j < n → Reaches (length ys) j) → ((j : ℕ) → j < n → Admitted c (l .nature) (r .nature) j)
+      → ((j : ℕ) → j < n → Reaches (length xs) j) → ((j : ℕ) → j < n → Reaches (length ys) j) → ((j : ℕ) → j < n → Admitted c (r .nature) j)
       → Good s (stepOf side c s xs ys)
   good-step g h e o d p q k = good-made s n (λ j. exactOf side (N.Is c) (columnOf xs j) (columnOf ys j)) e o (d .fits) at
     where
@@ -120,5 +120,5 @@ module _ (side : Side) (c : Component) (l r s : Sheet) (xs ys : Results) (n : �
       at j i =
           let a = good-column g j (p j i) in
           let b = good-column h j (q j i) in
-          let v = exact-exists side c (a .0) (b .0) (admitted-defined c (l .nature) (r .nature) j (b .0) (k j i) (b .2)) in
+          let v = exact-exists side c (a .0) (b .0) (admitted-defined c (r .nature) j (b .0) (k j i) (b .2)) in
           (v .0, ap₂ (λ (x y : Option ℤ). exactOf side (N.Is c) x y) (a .1) (b .1) ∙ v .1, d .keeps j i (a .0) (b .0) (v .0) (k j i) (a .2) (b .2) (v .1))

@@ -68,7 +68,7 @@ module _ (side : Side) (F : Form) (c : Component) (l r s : Sheet) (xs ys : Resul
 
   wide-good : (t : Sheet) → t .fields .columns ≡ some wide
       → (Spread (l .nature) wide → Spread (r .nature) wide → Derived side c wide (l .nature) (r .nature) (t .nature))
-      → ((j : ℕ) → Reaches (length ys) j → Admitted c (l .nature) (r .nature) j) → Good t (stepOf side c t xs ys)
+      → ((j : ℕ) → Reaches (length ys) j → Admitted c (r .nature) j) → Good t (stepOf side c t xs ys)
   unfolding wide
   wide-good t is d k =
       let p = columns-are g in
@@ -82,7 +82,7 @@ module _ (side : Side) (F : Form) (c : Component) (l r s : Sheet) (xs ys : Resul
       (d (serves-spread (l .nature) a (g .fits)) (serves-spread (r .nature) b (h .fits)))
       (λ j i. serves-reaches j a i) (λ j i. serves-reaches j b i) (λ j i. k j (serves-reaches j b i))
 
-  pair-good : derivePair F c l r ≡ ok s → ((j : ℕ) → Reaches (length ys) j → Admitted c (l .nature) (r .nature) j) → Good s (stepOf side c s xs ys)
+  pair-good : derivePair F c l r ≡ ok s → ((j : ℕ) → Reaches (length ys) j → Admitted c (r .nature) j) → Good s (stepOf side c s xs ys)
   unfolding derivePair pairFields wide
   pair-good e k =
       let t = then-ok-inv (binaryNature F c (l .fields .dataType) wide (l .nature) (r .nature)) _ (checked-rest (pairChecks l r) _ e) in
@@ -108,7 +108,7 @@ module _ (side : Side) (F : Form) (c : Component) (l r s : Sheet) (xs ys : Resul
   left-spread = serves-spread (l .nature) (inl (sym (columns-are g))) (g .fits)
 
   copy-good : deriveCopy F c l r ≡ ok s → Spread (r .nature) (columnsOf (l .fields))
-      → ((j : ℕ) → Reaches (length ys) j → Admitted c (l .nature) (r .nature) j) → Good s (stepOf side c s xs ys)
+      → ((j : ℕ) → Reaches (length ys) j → Admitted c (r .nature) j) → Good s (stepOf side c s xs ys)
   unfolding deriveCopy copyFields
   copy-good e p k =
       let n = binaryNature F c (l .fields .dataType) (columnsOf (l .fields)) (l .nature) (r .nature) in
@@ -119,7 +119,7 @@ module _ (side : Side) (F : Form) (c : Component) (l r s : Sheet) (xs ys : Resul
       reach-left reach-right (λ j i. k j (reach-right j i)))
 
   unary-good : deriveUnary F c l ≡ ok s → ((o : Option (Span ℤ)) → Asks c o) → ((a b : ℤ) → exact side c a a ≡ exact side c a b)
-      → ((j : ℕ) → Admitted c (l .nature) (r .nature) j) → Good s (stepOf side c s xs ys)
+      → ((j : ℕ) → Admitted c (r .nature) j) → Good s (stepOf side c s xs ys)
   unfolding deriveUnary
   unary-good e asks left k =
       let t = then-ok-inv (unaryNature (F .categoryLimit) c (l .fields .dataType) (columnsOf (l .fields)) (l .nature)) _ (checked-rest (unaryChecks (l .fields)) _ e) in

@@ -45,18 +45,18 @@ OfRange P (boolLists ls) j = ⊥
 OfRange P (floatLists ls) j = ⊥
 OfRange P (textLists ls) j = ⊥
 
--- what a component asks of its operands' natures at column j: demand 3's premise, or what 15 and 16 have tested
-abbrev pub Admitted : Component → Nature → Nature → ℕ → Type 0
-Admitted C.Abs l r j = Unit {0}
-Admitted C.Add l r j = Unit {0}
-Admitted C.Subtract l r j = Unit {0}
-Admitted C.Multiply l r j = Unit {0}
-Admitted C.Divide l r j = OffZero r j
-Admitted C.Modulo l r j = OfRange LowerAboveZero r j
-Admitted C.Log l r j = ⊥
-Admitted C.Power l r j = OfRange LowerNotNegative r j
-Admitted C.Negative l r j = Unit {0}
-Admitted C.Pool l r j = Unit {0}
+-- what a component asks of its right operand's nature at column j: demand 3's premise, or what 15 and 16 have tested
+abbrev pub Admitted : Component → Nature → ℕ → Type 0
+Admitted C.Abs r j = Unit {0}
+Admitted C.Add r j = Unit {0}
+Admitted C.Subtract r j = Unit {0}
+Admitted C.Multiply r j = Unit {0}
+Admitted C.Divide r j = OffZero r j
+Admitted C.Modulo r j = OfRange LowerAboveZero r j
+Admitted C.Log r j = ⊥
+Admitted C.Power r j = OfRange LowerNotNegative r j
+Admitted C.Negative r j = Unit {0}
+Admitted C.Pool r j = Unit {0}
 
 -- every column has a result, and it keeps to what the sheet states
 pub record Good (s : Sheet) (rs : Results) : Type 0 where

@@ -1,5 +1,7 @@
 -- Ends that are P make ends that are Q, over the kind of number, or are refused by a number of 01's.
---     rule-fits          every end rule, where what is divided by is N
+--     rule-fits          every end rule, where what is divided by is N; pool-fits is Pool's
+--     any-divides        of a kind that may divide by anything
+--     whole-rule-is      of whole ranges: what holds of the end rule and of absent ends holds of the rule by type
 --     whole-rule-fits    of whole ranges, whose ends fit 64 signed bits
 -- Assumes nothing.
 use mathlib.Core.Path.{_≡_, refl}

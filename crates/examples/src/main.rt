@@ -1,4 +1,4 @@
-// Document 01's shelf examples and traps, and Pool of document 02: sheets are built, the gate derives, and what its output says is written with both signs.
+// Document 01's shelf examples and traps, and Pool and Subtract of ranges of document 02: sheets are built, the gate derives, and what its output says is written with both signs.
 mod sheet; // operands
 mod show; // what bytes say
 

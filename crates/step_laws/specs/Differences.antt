@@ -1,15 +1,15 @@
 -- 02, S-4: examples of Subtract on ranges under two theorems: single calls from the operands' bytes to the reply and the bytes written, and plans to the reply and every byte of the work
 -- buffer.
 use mathlib.Core.Path.{_≡_, refl}
-use mathlib.Core.Bool.{Bool, true, false}
+use mathlib.Core.Bool.{true}
 use mathlib.Core.List.{List, [], _∷_, _++_}
-use mathlib.Core.Option.{Option, none, some}
+use mathlib.Core.Option.{none, some}
 use Prim.Native.Nat.{ℕ, _-_, _*_, _^_}
-use lib.Ieee.{Float, binary64, ofBits}
+use lib.Ieee.{binary64, ofBits}
 use lib.IntN.{ℤ, pos}
 use lib.ListN.{length, take, replicate}
 use Rattle.numbers.specs.Result.{Result, ok, refused}
-use Rattle.numbers.specs.Kind.{Span, spanOf}
+use Rattle.numbers.specs.Kind.{spanOf}
 use Rattle.base.specs.Form.{narrow, longest, intType, floatType}
 use Rattle.base.specs.Sheet.{Nature, wholeRange, floatRange, wholeLists, Sheet}
 use Rattle.base.specs.Encode.{encode}
@@ -19,7 +19,7 @@ use Rattle.step_laws.specs.Examples.{AllHold, sheetWith, Example, exampl
 use Rattle.step_laws.specs.Shelf.{range, between, minus}
 use Rattle.step_laws.specs.Pooled.{operand}
 use Rattle.step_laws.specs.Signs.{plusZero, minusZero, large, minusLarge}
-use Rattle.calls.specs.Single.{Outcome, outcome}
+use Rattle.calls.specs.Single.{outcome}
 use Rattle.calls.specs.Walk.{plan, walk, stepOn, sheetIn, leavesThen}
 
 -- ---- the sheets: releasable, of one row
@@ -154,7 +154,7 @@ planTable =
       code = 0;
       value = 4;
     }
-    -- the only result is 0, which is inside
+    -- a leaf less itself
     ∷ record {
       bytes = differenceFromItself;
       handedIn = operand intType (pos 1) 1 (between (pos 0) (pos 1)) ∷ [];

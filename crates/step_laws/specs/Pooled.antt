@@ -1,5 +1,5 @@
 -- Examples of Pool as one table under one theorem, from the operands' bytes to the reply and the bytes written.
-use mathlib.Core.Path.{_≡_, refl}
+use mathlib.Core.Path.{refl}
 use mathlib.Core.Bool.{Bool, true, false}
 use mathlib.Core.List.{List, [], _∷_}
 use mathlib.Core.Option.{Option, none, some}

@@ -1,15 +1,15 @@
 -- 02, S-2: examples of text as one table under one theorem, from the operands' bytes to the reply and the bytes written.
 use mathlib.Core.Path.{_≡_, refl}
-use mathlib.Core.Bool.{Bool, true, false}
+use mathlib.Core.Bool.{true, false}
 use mathlib.Core.List.{List, [], _∷_, _++_}
 use Prim.Native.Nat.{ℕ, _-_, _^_}
 use lib.IntN.{pos}
 use lib.ListN.{take, set, replicate}
 use Rattle.bytes.specs.Le.{leBytes}
-use Rattle.numbers.specs.Result.{Result, ok, refused}
+use Rattle.numbers.specs.Result.{ok, refused}
 use Rattle.utilities.specs.Lists.{listFrom}
 use Rattle.base.specs.Form.{narrow, intType}
-use Rattle.base.specs.Sheet.{Nature, absent, wholeLists, textLists, Sheet}
+use Rattle.base.specs.Sheet.{Nature, absent, wholeLists, textLists}
 use Rattle.base.specs.Encode.{spot, encode}
 use Rattle.step_laws.specs.Computing.{computing}
 use Rattle.step_laws.specs.Examples.{AllHold, Example, example, leaves, Holds}
