@@ -1,4 +1,6 @@
--- Whatever an end rule answers holds the exact result of numbers in its operands' entries, absent ends included. Assumes nothing.
+-- Whatever an end rule answers holds the exact result of numbers in its operands' entries, absent ends included: a law for each component.
+--     end-by-end-too-narrow    the ends that 01 gave Subtract would not
+-- Assumes nothing.
 use mathlib.Core.Path.{_≡_, refl, sym, ap, subst, _∙_}
 use mathlib.Core.Bool.{Bool, true, false, cond}
 use mathlib.Core.Logic.{⊎-elim}

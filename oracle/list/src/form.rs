@@ -73,6 +73,18 @@ pub struct Line {
 }
 
 impl Call {
+    /// Of two sheets by their short texts, with room for every result.
+    #[cfg(test)]
+    pub(crate) fn of(component: u32, left: &str, right: &str) -> Call {
+        Call {
+            component,
+            node: 1,
+            left: crate::text::bytes(left),
+            right: crate::text::bytes(right),
+            out_len: crate::sheet::LONGEST,
+        }
+    }
+
     /// Reads the first five fields of a line; an answer behind them is not read.
     pub fn parse(text: &str) -> Result<Call, String> {
         let fields: Vec<&str> = text.split(' ').collect();

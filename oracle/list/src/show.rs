@@ -92,17 +92,10 @@ fn once_if_alike<T: PartialEq>(entries: &[T], text: impl Fn(&T) -> String) -> St
 mod tests {
     use super::line;
     use crate::form::{Answer, Call, Mark};
-    use crate::sheet::LONGEST;
     use crate::text;
 
     fn shown(component: u32, left: &str, right: &str, code: u32, result: &str) -> String {
-        let call = Call {
-            component,
-            node: 1,
-            left: text::bytes(left),
-            right: text::bytes(right),
-            out_len: LONGEST,
-        };
+        let call = Call::of(component, left, right);
         let bytes = if code == 0 {
             text::bytes(result)
         } else {

@@ -383,17 +383,9 @@ pub fn run(list: &str, check: bool) -> Result<(String, bool), String> {
 mod tests {
     use super::Stats;
     use crate::form::{Answer, Call, Line, Mark};
-    use crate::sheet::LONGEST;
-    use crate::text;
 
     fn line(component: u32, left: &str, right: &str, code: u32) -> Line {
-        let call = Call {
-            component,
-            node: 1,
-            left: text::bytes(left),
-            right: text::bytes(right),
-            out_len: LONGEST,
-        };
+        let call = Call::of(component, left, right);
         let answer = Answer {
             code,
             bytes: Vec::new(),
