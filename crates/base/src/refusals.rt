@@ -80,3 +80,6 @@ pub const NO_ROOM: u32 = 27;
 
 // The result's text exceeds what a sheet holds.
 pub const TOO_MUCH_TEXT: u32 = 28;
+
+// The number of category lists is neither one nor the output's column count.
+pub const LIST_COUNT: u32 = 29;

@@ -1,4 +1,4 @@
--- `propagate_unary_nature`, `propagate_binary_nature` and Pool's: 17 to 26 and 28, and the nature derived.
+-- `propagate_unary_nature`, `propagate_binary_nature` and Pool's: 17 to 26, 28 and 29, and the nature derived.
 use mathlib.Core.Bool.{Bool, not}
 use mathlib.Core.List.{List, [], _∷_, _++_}
 use mathlib.Core.Option.{Option, none}
@@ -8,6 +8,7 @@ use lib.Dec.{eqb}
 use lib.Ieee.{Float}
 use Rattle.numbers.specs.Result.{Result, ok, refused, andThen, Check, check, checked}
 use Rattle.numbers.specs.Kind.{Span, whole, float, eqZ}
+use Rattle.utilities.specs.Columns.{spreads}
 use Rattle.base.specs.Form.{Form, floatListsNature}
 use Rattle.base.specs.Sheet.{Nature, absent, wholeRange, floatRange, wholeLists, boolLists, floatLists, textLists}
 use Rattle.base.specs.Encode.{natureNumber, entryCount}
@@ -60,12 +61,13 @@ isFloatLists k = eqb (natureNumber k) floatListsNature
 abbrev pub noLists : Nature → Bool
 noLists k = eqb (entryCount k) 0
 
-abbrev pub listChecks : Nature → List Check
-listChecks k = check 19 (isFloatLists k) ∷ check 20 (noLists k) ∷ []
+-- of an operand, by the output's columns. 29, 02, S-5: "the number of category lists is neither one nor the output's column count, directly after 20"
+abbrev pub listChecks : ℕ → Nature → List Check
+listChecks columns k = check 19 (isFloatLists k) ∷ check 20 (noLists k) ∷ check 29 (not (spreads columns (entryCount k))) ∷ []
 
--- left's before right's; 21: "The category kinds differ"
-abbrev pub bothListChecks : Nature → Nature → List Check
-bothListChecks l r = listChecks l ++ listChecks r ++ (check 21 (not (eqb (natureNumber l) (natureNumber r))) ∷ [])
+-- 02, S-5: "19, 20 and 29 finish on left before right"; 21: "The category kinds differ"
+abbrev pub bothListChecks : ℕ → Nature → Nature → List Check
+bothListChecks columns l r = listChecks columns l ++ listChecks columns r ++ (check 21 (not (eqb (natureNumber l) (natureNumber r))) ∷ [])
 
 -- 02, S-1: the lists of Pool, which are of one kind (21) and not float (19); the other natures are never reached
 abbrev pub unitedNature : ℕ → Nature → Nature → Result Nature
@@ -77,9 +79,9 @@ unitedNature columns (boolLists ls) r = andThen (united eqb columns ls (boolList
 unitedNature columns (floatLists ls) r = ok absent
 unitedNature columns (textLists ls) r = andThen (united sameText columns ls (textListsOf r)) (λ ns. ok (textLists ns))
 
--- two category operands of Pool: 19 to 21, then left's lists followed by right's
+-- two category operands of Pool: 19, 20, 29 and 21, then left's lists followed by right's
 unfoldable pub listsUnited : ℕ → Nature → Nature → Result Nature
-listsUnited columns l r = checked (bothListChecks l r) (unitedNature columns l r)
+listsUnited columns l r = checked (bothListChecks columns l r) (unitedNature columns l r)
 
 module _ (F : Form) (c : Component) (type columns : ℕ) where
   -- 22, then the product of two operands' lists, which are of one kind (21); 26, and of texts 28
@@ -92,9 +94,9 @@ module _ (F : Form) (c : Component) (type columns : ℕ) where
   combinedNature (floatLists ls) r = refused 22
   combinedNature (textLists ls) r = ruled (textRule c) (λ rule. andThen (combined sameText rule columns ls (textListsOf r)) (λ ns. kept F (textLists ns)))
 
-  -- two category operands: 19 to 22, then the product
+  -- two category operands: 19, 20, 29, 21 and 22, then the product
   unfoldable pub listsPair : Nature → Nature → Result Nature
-  listsPair l r = checked (bothListChecks l r) (combinedNature l r)
+  listsPair l r = checked (bothListChecks columns l r) (combinedNature l r)
 
 -- two natures, of which two categories make what `together` says
 module _ (c : Component) (type columns : ℕ) (together : Nature → Nature → Result Nature) where
@@ -140,15 +142,15 @@ module _ (c : Component) (type columns : ℕ) (together : Nature → Nature → 
 abbrev pub binaryNature : Form → Component → ℕ → ℕ → Nature → Nature → Result Nature
 binaryNature F c type columns l r = twoNatures c type columns (listsPair F c type columns) l r
 
--- 17 to 21 of Pool, and the nature that it derives, however many categories and texts it holds: 24 of the rows comes before 26 and 28
+-- 17 to 21 and 29 of Pool, and the nature that it derives, however many categories and texts it holds: 24 of the rows comes before 26 and 28
 abbrev pub poolNature : Component → ℕ → ℕ → Nature → Nature → Result Nature
 poolNature c type columns l r = twoNatures c type columns (listsUnited columns) l r
 
 module _ (limit : ℕ) (c : Component) (type columns : ℕ) where
-  -- one category operand: 19, 20 and 22, then the mapping
+  -- one category operand: 19, 20, 29 and 22, then the mapping
   unfoldable pub listsAlone : Nature → Result Nature
   listsAlone l =
-      checked (listChecks l)
+      checked (listChecks columns l)
       (ruled (ruleFor c type l) (λ rule. limited limit (mapped eqZ rule columns (wholeListsOf l))))
 
   -- `propagate_unary_nature`

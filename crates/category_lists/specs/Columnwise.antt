@@ -40,7 +40,7 @@ pick ls j = getD ls (cond (eqb (length ls) 1) 0 j) []
 abbrev pub spreadOf : ℕ → ℕ → ℕ
 spreadOf columns n = cond (eqb n 1) columns n
 
--- 01: "pairing stops at the shorter"
+-- how far two operands' lists go together: as far as the shorter goes. (With 29 of 02, S-5 both go over all columns)
 unfoldable pub lesserOf : ℕ → ℕ → ℕ
 lesserOf zero b = 0
 lesserOf (suc a) zero = 0

@@ -216,7 +216,7 @@ pub fn spread(columns: usize, n: usize) -> usize
     if n == 1 { columns } else { n }
 }
 
-// Pairing stops at the shorter.
+// How far two operands' lists go together. Lists that 29 has passed go over all columns.
 pub fn lesser(a: usize, b: usize) -> usize
     ensures { λ r. ⌜ r ≡ lesserOf a b ⌝ }
 {

@@ -1,28 +1,33 @@
-// 19 to 21 of category operands, and which components have the rules that 22 asks for.
+// 19 to 21 and 29 of category operands, and which components have the rules that 22 asks for.
 use base::Component;
 use base::Family;
 use base::form;
 use base::form::Form;
 use base::refusals;
 ghost use mathlib.Core.Path.{_≡_};
+ghost use mathlib.Core.Bool.{not};
 ghost use mathlib.Core.List.{[], _∷_};
 ghost use lib.Dec.{eqb};
 ghost use Rattle.numbers.specs.Result.{check, firstFailing};
+ghost use Rattle.utilities.specs.Columns.{spreads};
 ghost use Rattle.base.specs.Form.{formOf, floatListsNature};
 ghost use Rattle.base.specs.Components.{familyOf};
 ghost use Rattle.base.specs.Decode.{natureIn};
 ghost use Rattle.calls.specs.Natures.{bothListChecks};
 ghost use Rattle.list_codes.specs.Code.{Lists, hasRule, joins};
 
-// 19 and 20 of one category operand.
-pub fn lists_code(nature: u8, lists: usize) -> u32
-    ensures { λ r. ⌜ r ≡ firstFailing (check 19 (eqb nature floatListsNature) ∷ check 20 (eqb lists 0) ∷ []) ⌝ }
+// 19, 20 and 29 of one category operand, by the output's columns.
+pub fn lists_code(columns: usize, nature: u8, lists: usize) -> u32
+    ensures { λ r. ⌜ r ≡ firstFailing (check 19 (eqb nature floatListsNature) ∷ check 20 (eqb lists 0) ∷ check 29 (not (spreads columns lists)) ∷ []) ⌝ }
 {
     if nature == form::FLOAT_LISTS {
         return refusals::FLOAT_CATEGORIES;
     }
     if lists == 0 {
         return refusals::NO_LISTS;
+    }
+    if !utilities::spreads(columns, lists) {
+        return refusals::LIST_COUNT;
     }
     0
 }
@@ -40,20 +45,20 @@ pub fn has_rule(c: Component) -> bool
     }
 }
 
-// 19 to 21 of two category operands, left's before right's.
-pub fn both_lists_code(f: Form, left: &[u8], right: &[u8]) -> u32
+// 19, 20 and 29 of two category operands, left's before right's, then 21.
+pub fn both_lists_code(f: Form, columns: usize, left: &[u8], right: &[u8]) -> u32
     requires { ⌜ Lists (formOf f) (now left) × Lists (formOf f) (now right) ⌝ }
-    ensures { λ r. ⌜ r ≡ firstFailing (bothListChecks (natureIn (formOf f) (now (left .entry))) (natureIn (formOf f) (now (right .entry)))) ⌝ }
+    ensures { λ r. ⌜ r ≡ firstFailing (bothListChecks columns (natureIn (formOf f) (now (left .entry))) (natureIn (formOf f) (now (right .entry)))) ⌝ }
 {
     let x = base::nature_of(f, left);
     let y = base::nature_of(f, right);
     let l = base::sizes_at(f, left);
-    let k = lists_code(x, l.lists);
+    let k = lists_code(columns, x, l.lists);
     if k != 0 {
         return k;
     }
     let r = base::sizes_at(f, right);
-    let m = lists_code(y, r.lists);
+    let m = lists_code(columns, y, r.lists);
     if m != 0 {
         return m;
     }

@@ -1,4 +1,4 @@
-// `propagate_unary_categorical_nature` and `propagate_binary_categorical_nature`: 19 to 26 and 28, and the nature derived, its arrays at the start of two lent buffers.
+// `propagate_unary_categorical_nature` and `propagate_binary_categorical_nature`: 19 to 26, 28 and 29, and the nature derived, its arrays at the start of two lent buffers.
 use base::Component;
 use base::form;
 use base::form::Form;
@@ -18,7 +18,7 @@ ghost use Rattle.text_lists.specs.Codes.{Joining};
 ghost use Rattle.list_codes.specs.Code.{Lists, joins};
 ghost use Rattle.list_natures.specs.Code.{Reached};
 
-// Two operands of text that 19 to 21 passed: 22, then their texts joined.
+// Two operands of text that 19, 20, 29 and 21 passed: 22, then their texts joined.
 fn joined_texts(
     f: Form,
     c: Component,
@@ -41,7 +41,7 @@ fn joined_texts(
     text_lists::texts_together(f, true, columns, left, right, us, bs, store, first, second)
 }
 
-// Two category operands: 19 to 22, then the product.
+// Two category operands: 19, 20, 29, 21 and 22, then the product.
 pub fn propagate_binary_categorical_nature(
     f: Form,
     c: Component,
@@ -60,7 +60,7 @@ pub fn propagate_binary_categorical_nature(
     requires { ⌜ Lent (familyOf c) (formOf f) (now left) (now right) (now us) (now bs) (now store) (now hints) (now first) (now second) ⌝ }
     ensures { λ r. ⌜ (derivedIn r (now (first .exit)) (now (second .exit)) ≡ inWriting (formOf f) (listsPair (formOf f) c data_type columns (natureIn (formOf f) (now (left .entry))) (natureIn (formOf f) (now (right .entry))))) × Within (formOf f) (natureRoom (familyOf c) (formOf f) (now (left .entry)) (now (right .entry))) (now (first .exit)) (now (second .exit)) r ⌝ }
 {
-    let k = list_codes::both_lists_code(f, left, right);
+    let k = list_codes::both_lists_code(f, columns, left, right);
     if k != 0 {
         return Derived::Refused(k);
     }
@@ -101,7 +101,7 @@ pub fn propagate_binary_categorical_nature(
     )
 }
 
-// One category operand: 19, 20, 22, then the mapping.
+// One category operand: 19, 20, 29 and 22, then the mapping.
 pub fn propagate_unary_categorical_nature(
     f: Form,
     c: Component,
@@ -120,7 +120,7 @@ pub fn propagate_unary_categorical_nature(
 {
     let x = base::nature_of(f, s);
     let sizes = base::sizes_at(f, s);
-    let k = list_codes::lists_code(x, sizes.lists);
+    let k = list_codes::lists_code(columns, x, sizes.lists);
     if k != 0 {
         return Derived::Refused(k);
     }

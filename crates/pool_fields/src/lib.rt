@@ -56,7 +56,7 @@ pub fn pool_head(rows: OptionI64, l: Head, r: Head) -> Head
     }
 }
 
-// What refuses where the rows leave 64 bits: 24 comes behind 17 to 21 and before 26 and 28.
+// What refuses where the rows leave 64 bits: 24 comes behind 17 to 21 and 29, and before 26 and 28.
 pub fn behind_rows(derived: Derived) -> u32
     ensures { λ r. ⌜ r ≡ behindRows derived ⌝ }
 {

@@ -1,4 +1,4 @@
-// The nature that Pool derives: 17 to 21, then 26 and 28, its arrays at the start of two lent buffers.
+// The nature that Pool derives: 17 to 21 and 29, then 26 and 28, its arrays at the start of two lent buffers.
 use base::Component;
 use base::form;
 use base::form::Form;
@@ -15,7 +15,7 @@ ghost use Rattle.lending.specs.Code.{Read, Ready, Lent, natureRoom};
 ghost use Rattle.list_codes.specs.Code.{Lists};
 ghost use Rattle.writer.specs.Written.{inWriting, derivedIn, Within};
 
-// Two category operands of Pool: 19 to 21, then left's lists followed by right's.
+// Two category operands of Pool: 19, 20, 29 and 21, then left's lists followed by right's.
 fn united_categorical_nature(
     f: Form,
     columns: usize,
@@ -32,7 +32,7 @@ fn united_categorical_nature(
     requires { ⌜ Lent Fam.Pool (formOf f) (now left) (now right) (now us) (now bs) (now store) (now hints) (now first) (now second) ⌝ }
     ensures { λ r. ⌜ (derivedIn r (now (first .exit)) (now (second .exit)) ≡ inWriting (formOf f) (andThen (listsUnited columns (natureIn (formOf f) (now (left .entry))) (natureIn (formOf f) (now (right .entry)))) (kept (formOf f)))) × Within (formOf f) (natureRoom Fam.Pool (formOf f) (now (left .entry)) (now (right .entry))) (now (first .exit)) (now (second .exit)) r ⌝ }
 {
-    let k = list_codes::both_lists_code(f, left, right);
+    let k = list_codes::both_lists_code(f, columns, left, right);
     if k != 0 {
         return Derived::Refused(k);
     }

@@ -20,13 +20,6 @@ ghost use Rattle.writer.specs.Written.{inWriting, derivedIn, endsRoom, Within};
 ghost use Rattle.ends.specs.Ranges.{rangeNature};
 ghost use Rattle.ranges.specs.Chained.{entryOf, rangeAt, columnEnds, columnAt, rangeNumber, rangeParts, columnsFrom};
 
-// Whether a list has one entry, or one per column.
-fn spreads(columns: usize, n: usize) -> bool
-    ensures { λ r. ⌜ r ≡ spreads columns n ⌝ }
-{
-    (n == columns) | (n == 1)
-}
-
 // The entry of n that column j takes: its own, or the only one.
 fn entry_of(columns: usize, n: usize, j: usize) -> usize
     requires { ⌜ (spreads columns n ≡ true) × (j < columns) ⌝ }
@@ -161,11 +154,11 @@ pub fn range_pair(
     ensures { λ r. ⌜ (derivedIn r (now (lowers .exit)) (now (uppers .exit)) ≡ inWriting (formOf f) (rangeNature (formOf f) float c data_type columns (now (left .entry)) (now (right .entry)))) × Within (formOf f) (endsRoom (formOf f)) (now (lowers .exit)) (now (uppers .exit)) r ⌝ }
 {
     let l = base::sizes_at(f, left);
-    if !spreads(columns, l.lists) {
+    if !utilities::spreads(columns, l.lists) {
         return Derived::Refused(refusals::UNEVEN_LIST);
     }
     let r = base::sizes_at(f, right);
-    if !spreads(columns, r.lists) {
+    if !utilities::spreads(columns, r.lists) {
         return Derived::Refused(refusals::UNEVEN_LIST);
     }
     put_columns(

@@ -36,7 +36,8 @@ module _ {X : Type 0} (same : X → X → Bool) where
   unfoldable pub firsts : List X → List X
   firsts xs = firstsFrom [] xs
 
--- 01: "One list repeats per output column; other counts stay"
+-- 01: "One list repeats per output column". (Another count is that of the columns: 18, and for categories 29 of 02, S-5, which replaces 01's "other counts
+-- stay")
 unfoldable pub repeated {ℓ} : {X : Type ℓ} → ℕ → List X → List X
 repeated columns [] = []
 repeated columns (l ∷ []) = replicate columns l

@@ -1,10 +1,18 @@
-// Lists of whole numbers without repeats: first occurrences stay.
+// Lists of whole numbers without repeats: first occurrences stay. Lists spread over columns.
 ghost use mathlib.Core.Path.{_≡_};
 ghost use Prim.Native.Nat.{_≤_, _<_};
 ghost use lib.ListN.{length, take, replicate};
 ghost use Rattle.numbers.specs.Kind.{eqZ};
 ghost use Rattle.utilities.specs.Lists.{has};
+ghost use Rattle.utilities.specs.Columns.{spreads};
 ghost use Rattle.utilities.specs.Noted.{Notes, Hinting, hintCount, hintAt, held};
+
+// Whether a list of n goes with the columns: one for all of them, or one for each.
+pub fn spreads(columns: usize, n: usize) -> bool
+    ensures { λ r. ⌜ r ≡ spreads columns n ⌝ }
+{
+    (n == columns) | (n == 1)
+}
 
 // Whether x is among the first n values.
 fn has(s: &[i64], n: usize, x: i64) -> bool
