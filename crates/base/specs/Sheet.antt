@@ -57,3 +57,13 @@ isWholeRange (wholeLists ls) = false
 isWholeRange (boolLists ls) = false
 isWholeRange (floatLists ls) = false
 isWholeRange (textLists ls) = false
+
+-- categories of any kind
+abbrev pub isLists : Nature → Bool
+isLists absent = false
+isLists (wholeRange rs) = false
+isLists (floatRange rs) = false
+isLists (wholeLists ls) = true
+isLists (boolLists ls) = true
+isLists (floatLists ls) = true
+isLists (textLists ls) = true

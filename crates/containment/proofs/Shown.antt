@@ -12,7 +12,7 @@
 use mathlib.Core.Path.{_≡_, refl, sym, ap, subst}
 use mathlib.Core.Bool.{Bool, true, false}
 use mathlib.Core.List.{List, [], _∷_, List·Memᴰ·head, List·Memᴰ·tail}
-use mathlib.Core.Logic.{inl, inr}
+use mathlib.Core.Logic.{_⊎_, inl, inr}
 use mathlib.Core.Option.{Option, none, some}
 use Prim.Native.Nat.{ℕ, zero, suc, _+_, _≤_, _<_, zero-le}
 use native.Mathlib.Nat.{eq-or-lt-of-le}
@@ -36,7 +36,7 @@ use Rattle.bytes.proofs.Reread.{AllBytes}
 use Rattle.plan_form.specs.Form.{nodeCount, leafCount, stepCount, componentNumber, leftOf, rightOf, planFails, stepPermitted}
 use Rattle.calls.specs.Walk.{plan, walk, stepOn, sheetIn, leavesThen, leafNodes, stepNodes}
 use Rattle.containment.specs.Exact.{Side, Row, Results, exact, resultsOf, resultAt}
-use Rattle.containment.specs.Demand.{entryFor, Keeps, StatesColumns, WholeNature, ColumnsMatch, OffZero, Suits, Premises, Inside, Claim, sheetOf}
+use Rattle.containment.specs.Demand.{entryFor, Keeps, StatesColumns, WholeNature, Counted, ColumnsMatch, OffZero, Suits, Premises, Inside, Claim, sheetOf}
 use Rattle.containment.specs.Shown.{shownPlan, shownLeaves, shownSteps, between, shownWork, shownAfter, shownSheet, shownNumbers, rowTaking, shownRow, oppositeRow, commonResults, shownResults, oppositeResults}
 use Rattle.containment.proofs.Contained.{contained}
 
@@ -96,7 +96,7 @@ reading = tt
 
 -- what each premise says of one node
 abbrev LeafNature : ℕ → Type 0
-LeafNature k = WholeNature (sheet k .nature) (columnsOf (sheet k .fields))
+LeafNature k = WholeNature (sheet k .nature) (columnsOf (sheet k .fields)) ⊎ Counted shownPlan sheet k
 
 abbrev OperandColumns : ℕ → Type 0
 OperandColumns k = ColumnsMatch (sheet (leftOf shownPlan k)) (sheet (rightOf shownPlan k))
@@ -106,16 +106,33 @@ ComponentSuits k = Suits (componentOf (componentNumber shownPlan k)) (sheet (lef
 
 leaf-columns : Each (λ k. StatesColumns (sheet k)) (leafNodes narrow shownPlan)
 unfolding reading
-leaf-columns = ((2, refl), ((1, refl), ((2, refl), ((1, refl), ((1, refl), tt)))))
+leaf-columns = ((2, refl), ((1, refl), ((2, refl), ((2, refl), ((2, refl), tt)))))
+
+-- node 8 adds node 4's categories to node 3's, over as many columns as node 3 has: how many lists node 3 has is no premise, and 29 has tested it
+combined-lists : Counted shownPlan sheet 3
+unfolding reading
+combined-lists = record {
+  lists = (pos 1 ∷ pos 2 ∷ []) ∷ (pos 5 ∷ []) ∷ [];
+  holds = refl;
+  step = 8;
+  behind = omega arith;
+  within = omega arith;
+  spreads = record { reads = inl refl; left = refl; right = refl; own-columns = refl };
+}
+
+-- node 17 maps node 4's
+mapped-lists : Counted shownPlan sheet 4
+unfolding reading
+mapped-lists = record { lists = (pos 10 ∷ pos 11 ∷ []) ∷ (pos 20 ∷ []) ∷ []; holds = refl; step = 17; behind = omega arith; within = omega arith; spreads = refl }
 
 leaf-natures : Each LeafNature (leafNodes narrow shownPlan)
 unfolding reading
-leaf-natures = (inl refl, (inl refl, (inr refl, (inl refl, (inl refl, tt)))))
+leaf-natures = (inl (inl refl), (inl (inl refl), (inl (inr refl), (inr combined-lists, (inr mapped-lists, tt)))))
 
 operand-columns : Each OperandColumns (stepNodes narrow shownPlan)
 unfolding reading
 operand-columns =
-    (inr (inr refl), (inl refl, (inr (inr refl), (inl refl, (inl refl, (inr (inr refl), (inl refl, (inl refl, (inl refl, (inl refl, (inl refl, (inl refl, tt))))))))))))
+    (inr (inr refl), (inl refl, (inr (inr refl), (inl refl, (inl refl, (inr (inr refl), (inl refl, (inl refl, (inl refl, (inl refl, (inl refl, (inl refl, (inl refl, tt)))))))))))))
 
 -- Divide's divisor has its lower above 0 in the first column, its upper below 0 in the second
 off-zero : (j : ℕ) → j < 2 → OffZero (sheet 2 .nature) j
@@ -125,7 +142,7 @@ off-zero = both (OffZero (sheet 2 .nature)) (inl (pos 2, refl, record { lt = tt 
 -- Divide is the second step; Power, the sixth, has Int operands
 components-suit : Each ComponentSuits (stepNodes narrow shownPlan)
 unfolding reading
-components-suit = (tt, (off-zero, (tt, (tt, (tt, ((refl, refl), (tt, (tt, (tt, (tt, (tt, (tt, tt))))))))))))
+components-suit = (tt, (off-zero, (tt, (tt, (tt, ((refl, refl), (tt, (tt, (tt, (tt, (tt, (tt, (tt, tt)))))))))))))
 
 sheets-meet : Premises shownPlan sheet
 unfolding reading
@@ -151,8 +168,8 @@ module _ (x y : Side) where
       let first = both (Kept 0) (record { le = tt }, record { le = tt }) (record { le = tt }, record { le = tt }) in
       let second = only (Kept 1) (record { le = tt }, record { le = tt }) in
       let divisor = both (Kept 2) (record { le = tt }, record { le = tt }) (record { le = tt }, record { le = tt }) in
-      let fourth = only (Kept 3) (List·Memᴰ·tail (List·Memᴰ·head refl)) in
-      let fifth = only (Kept 4) (List·Memᴰ·tail (List·Memᴰ·head refl)) in
+      let fourth = both (Kept 3) (List·Memᴰ·tail (List·Memᴰ·head refl)) (List·Memᴰ·head refl) in
+      let fifth = both (Kept 4) (List·Memᴰ·tail (List·Memᴰ·head refl)) (List·Memᴰ·head refl) in
       (first, (second, (divisor, (fourth, (fifth, tt)))))
 
   row-inside : Inside shownPlan sheet (rowTaking x y)

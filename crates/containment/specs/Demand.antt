@@ -1,6 +1,6 @@
 -- Demand 3: no result of any row leaves what its node's sheet states.
 use mathlib.Core.Path.{_≡_}
-use mathlib.Core.Bool.{cond}
+use mathlib.Core.Bool.{true, cond}
 use mathlib.Core.List.{List, [], _∷_, List·Memᴰ}
 use mathlib.Core.Logic.{_⊎_}
 use mathlib.Core.Option.{Option, none, some}
@@ -11,10 +11,12 @@ use lib.Dec.{ltb}
 use lib.Signed.{_≤ℤ_, _<ℤ_}
 use Rattle.numbers.specs.Kind.{Span}
 use Rattle.base.specs.Form.{Form, intType}
-use Rattle.base.specs.Sheet.{Sheet, Nature, absent, wholeRange, floatRange, wholeLists, boolLists, floatLists, textLists}
+use Rattle.base.specs.Sheet.{Sheet, Nature, absent, wholeRange, floatRange, wholeLists, boolLists, floatLists, textLists, isLists}
 use Rattle.base.specs.Decode.{decode}
-use Rattle.base.specs.Components.{componentOf}
+use Rattle.base.specs.Components.{componentOf, familyOf}
 use Rattle.base.specs.declared.Component.the-variants as C
+use Rattle.base.specs.declared.Family.{Family}
+use Rattle.base.specs.declared.Family.the-variants as Fam
 use Rattle.base.specs.declared.Numbered.{Numbered}
 use Rattle.base.specs.declared.Numbered.the-variants as N
 use Rattle.shape.specs.Shape.{columnsOf}
@@ -56,7 +58,7 @@ Keeps (boolLists ls) j v = ⊥
 Keeps (floatLists ls) j v = ⊥
 Keeps (textLists ls) j v = ⊥
 
--- ---- the premises, in the demand's order and words
+-- ---- the premises, in the demand's order and words, and in 02's where a request has softened them
 
 -- "all leaves state a column count"
 abbrev pub StatesColumns : Sheet → Type 0
@@ -66,7 +68,8 @@ StatesColumns s = (n : ℕ) × (s .fields .columns ≡ some n)
 abbrev pub OneOrPerColumn {ℓ} : {X : Type ℓ} → List X → ℕ → Type 0
 OneOrPerColumn xs columns = (length xs ≡ 1) ⊎ (length xs ≡ columns)
 
--- "and hold whole ranges or whole categories, one list entry or one per column"
+-- "and hold whole ranges or whole categories, one list entry or one per column". 02, S-5 keeps this for bound lists, and for categories that `Counted` does
+-- not speak of
 abbrev pub WholeNature : Nature → ℕ → Type 0
 WholeNature absent columns = ⊥
 WholeNature (wholeRange rs) columns = OneOrPerColumn rs columns
@@ -75,6 +78,34 @@ WholeNature (wholeLists ls) columns = OneOrPerColumn ls columns
 WholeNature (boolLists ls) columns = ⊥
 WholeNature (floatLists ls) columns = ⊥
 WholeNature (textLists ls) columns = ⊥
+
+-- step k of the plan and a leaf's categories. 02, S-5: "where some step maps them, or combines them with categories, at that leaf's own column count"
+module _ (p : List ℕ) (sheet : ℕ → Sheet) (leaf k : ℕ) where
+  pub record Combines : Type 0 where
+    pub reads : (leftOf p k ≡ leaf) ⊎ (rightOf p k ≡ leaf)
+    pub left : isLists (sheet (leftOf p k) .nature) ≡ true
+    pub right : isLists (sheet (rightOf p k) .nature) ≡ true
+    pub own-columns : sheet k .fields .columns ≡ sheet leaf .fields .columns
+
+  -- Abs and Negative map left's, over left's columns; 2 to 5 and Pool combine. (Of two category operands Modulo, Log and Power make nothing)
+  abbrev pub SpreadsBy : Family → Type 0
+  SpreadsBy Fam.Unary = leftOf p k ≡ leaf
+  SpreadsBy Fam.Pair = Combines
+  SpreadsBy Fam.Copy = ⊥
+  SpreadsBy Fam.Pool = Combines
+
+  abbrev pub Spreads : Numbered → Type 0
+  Spreads N.Unlisted = ⊥
+  Spreads (N.Is c) = SpreadsBy (familyOf c)
+
+-- 02, S-5: the containment rule "drops it for a leaf's categories where some step" does so: there 29 has counted their lists
+pub record Counted (p : List ℕ) (sheet : ℕ → Sheet) (leaf : ℕ) : Type 0 where
+  pub lists : List (List ℤ)
+  pub holds : sheet leaf .nature ≡ wholeLists lists
+  pub step : ℕ
+  pub behind : leafCount p ≤ step
+  pub within : step < nodeCount p
+  pub spreads : Spreads p sheet leaf step (componentOf (componentNumber p step))
 
 -- "the operands of each step have equal column counts or one of them a single column"
 abbrev pub ColumnsMatch : Sheet → Sheet → Type 0
@@ -118,7 +149,7 @@ Suits (N.Is C.Pool) l r = Unit {0}
 -- of a plan's bytes and its nodes' sheets
 pub record Premises (p : List ℕ) (sheet : ℕ → Sheet) : Type 0 where
   pub leafColumns : (k : ℕ) → k < leafCount p → StatesColumns (sheet k)
-  pub leafNatures : (k : ℕ) → k < leafCount p → WholeNature (sheet k .nature) (columnsOf (sheet k .fields))
+  pub leafNatures : (k : ℕ) → k < leafCount p → WholeNature (sheet k .nature) (columnsOf (sheet k .fields)) ⊎ Counted p sheet k
   pub operandColumns : (k : ℕ) → leafCount p ≤ k → k < nodeCount p → ColumnsMatch (sheet (leftOf p k)) (sheet (rightOf p k))
   pub components : (k : ℕ) → leafCount p ≤ k → k < nodeCount p → Suits (componentOf (componentNumber p k)) (sheet (leftOf p k)) (sheet (rightOf p k))
 

@@ -20,7 +20,7 @@ use Rattle.containment.specs.Demand.{sheetOf}
 
 unfoldable pub shownPlan : List ℕ
 shownPlan =
-    17 ∷ 0  -- N, the nodes
+    18 ∷ 0  -- N, the nodes
     ∷ 5 ∷ 0  -- K, the leaves
     ∷ 4 ∷ 0 ∷ 0 ∷ 0  -- node 5: Multiply
     ∷ 5 ∷ 0 ∷ 0 ∷ 0  -- node 6: Divide
@@ -34,6 +34,7 @@ shownPlan =
     ∷ 4 ∷ 0 ∷ 0 ∷ 0  -- node 14: Multiply
     ∷ 10 ∷ 0 ∷ 0 ∷ 0  -- node 15: Pool
     ∷ 3 ∷ 0 ∷ 0 ∷ 0  -- node 16: Subtract
+    ∷ 9 ∷ 0 ∷ 0 ∷ 0  -- node 17: Negative
     ∷ 0 ∷ 0 ∷ 1 ∷ 0  -- node 5: left 0, right 1
     ∷ 5 ∷ 0 ∷ 2 ∷ 0  -- node 6: left 5, right 2
     ∷ 6 ∷ 0 ∷ 1 ∷ 0  -- node 7: left 6, right 1
@@ -46,6 +47,7 @@ shownPlan =
     ∷ 13 ∷ 0 ∷ 13 ∷ 0  -- node 14: left 13, right 13
     ∷ 3 ∷ 0 ∷ 4 ∷ 0  -- node 15: left 3, right 4
     ∷ 0 ∷ 0 ∷ 2 ∷ 0  -- node 16: left 0, right 2
+    ∷ 4 ∷ 0 ∷ 4 ∷ 0  -- node 17: left 4, right 4
     ∷ []
 
 -- ---- its sheets
@@ -82,14 +84,15 @@ endless = record { lower = none; upper = none }
 abbrev pub leaf : ℕ → Nature → Sheet
 leaf columns k = sheetWith 100 (some (pos 7)) (pos 40) false columns k
 
--- nodes 0 to 4: two columns under one entry, one column, two columns with an entry each (the divisor, above 0 and below 0), and two of categories
+-- nodes 0 to 4: two columns under one entry, one column, two columns with an entry each (the divisor, above 0 and below 0), and two of categories with a
+-- list for each column, which steps count: node 8 combines node 3's with categories, node 17 maps node 4's
 unfoldable pub shownLeaves : List Sheet
 shownLeaves =
     leaf 2 (wholeRange (between (minus 2) (pos 3) ∷ []))
     ∷ leaf 1 (wholeRange (between (pos 4) (pos 5) ∷ []))
     ∷ leaf 2 (wholeRange (between (pos 2) (pos 3) ∷ between (minus 4) (minus 3) ∷ []))
-    ∷ leaf 1 (wholeLists ((pos 1 ∷ pos 2 ∷ []) ∷ []))
-    ∷ leaf 1 (wholeLists ((pos 10 ∷ pos 11 ∷ []) ∷ []))
+    ∷ leaf 2 (wholeLists ((pos 1 ∷ pos 2 ∷ []) ∷ (pos 5 ∷ []) ∷ []))
+    ∷ leaf 2 (wholeLists ((pos 10 ∷ pos 11 ∷ []) ∷ (pos 20 ∷ []) ∷ []))
     ∷ []
 
 -- a step's sheet, with its own node number (2 to 5) or with that of the operand that it copies
@@ -100,21 +103,22 @@ derived node columns k = sheetWith 100 (some (pos 7)) (pos node) true columns k
 abbrev pub pooled : ℕ → Bool → ℕ → Nature → Sheet
 pooled node ordered columns k = sheetWith 200 none (pos node) ordered columns k
 
--- nodes 5 to 16, as the call is to leave them
+-- nodes 5 to 17, as the call is to leave them
 unfoldable pub shownSteps : List Sheet
 shownSteps =
     derived 5 2 (wholeRange (between (minus 10) (pos 15) ∷ between (minus 10) (pos 15) ∷ []))
     ∷ derived 6 2 (wholeRange (between (minus 5) (pos 7) ∷ between (minus 5) (pos 3) ∷ []))
     ∷ derived 6 2 (wholeRange (between (pos 0) (pos 4) ∷ between (pos 0) (pos 4) ∷ []))
-    ∷ derived 8 1 (wholeLists ((pos 11 ∷ pos 12 ∷ pos 13 ∷ []) ∷ []))
-    ∷ derived 9 1 (wholeLists ((pos 10 ∷ pos 9 ∷ pos 11 ∷ pos 12 ∷ []) ∷ []))
+    ∷ derived 8 2 (wholeLists ((pos 11 ∷ pos 12 ∷ pos 13 ∷ []) ∷ (pos 25 ∷ []) ∷ []))
+    ∷ derived 9 2 (wholeLists ((pos 10 ∷ pos 9 ∷ pos 11 ∷ pos 12 ∷ []) ∷ (pos 20 ∷ []) ∷ []))
     ∷ derived 6 2 (wholeRange (endless ∷ endless ∷ []))
     ∷ derived 6 2 (wholeRange (between (minus 7) (pos 5) ∷ between (minus 3) (pos 5) ∷ []))
     ∷ derived 6 2 (wholeRange (between (minus 5) (pos 7) ∷ between (minus 5) (pos 5) ∷ []))
     ∷ pooled 13 false 2 (wholeRange (between (minus 2) (pos 3) ∷ between (minus 4) (pos 3) ∷ []))
     ∷ pooled 14 true 2 (wholeRange (between (minus 6) (pos 9) ∷ between (minus 12) (pos 16) ∷ []))
-    ∷ pooled 15 false 1 (wholeLists ((pos 1 ∷ pos 2 ∷ pos 10 ∷ pos 11 ∷ []) ∷ []))
+    ∷ pooled 15 false 2 (wholeLists ((pos 1 ∷ pos 2 ∷ pos 10 ∷ pos 11 ∷ []) ∷ (pos 5 ∷ pos 20 ∷ []) ∷ []))
     ∷ derived 16 2 (wholeRange (between (minus 5) (pos 1) ∷ between (pos 1) (pos 7) ∷ []))
+    ∷ leaf 2 (wholeLists ((minus 10 ∷ minus 11 ∷ []) ∷ (minus 20 ∷ []) ∷ []))
     ∷ []
 
 -- ---- the work buffer
@@ -136,8 +140,8 @@ shownNumbers =
     (pos 3 ∷ minus 2 ∷ [])
     ∷ (pos 5 ∷ [])
     ∷ (pos 2 ∷ minus 3 ∷ [])
-    ∷ (pos 2 ∷ [])
-    ∷ (pos 11 ∷ [])
+    ∷ (pos 2 ∷ pos 5 ∷ [])
+    ∷ (pos 11 ∷ pos 20 ∷ [])
     ∷ []
 
 -- by the side of node 13 and that of every other node
@@ -156,21 +160,24 @@ commonResults =
     (some (pos 3) ∷ some (minus 2) ∷ [])
     ∷ (some (pos 5) ∷ [])
     ∷ (some (pos 2) ∷ some (minus 3) ∷ [])
-    ∷ (some (pos 2) ∷ [])
-    ∷ (some (pos 11) ∷ [])
+    ∷ (some (pos 2) ∷ some (pos 5) ∷ [])
+    ∷ (some (pos 11) ∷ some (pos 20) ∷ [])
     ∷ (some (pos 15) ∷ some (minus 10) ∷ [])
     ∷ (some (pos 7) ∷ some (pos 3) ∷ [])
     ∷ (some (pos 2) ∷ some (pos 3) ∷ [])
-    ∷ (some (pos 13) ∷ [])
-    ∷ (some (pos 11) ∷ [])
+    ∷ (some (pos 13) ∷ some (pos 25) ∷ [])
+    ∷ (some (pos 11) ∷ some (pos 20) ∷ [])
     ∷ (some (pos 32) ∷ some (pos 243) ∷ [])
     ∷ (some (minus 7) ∷ some (minus 3) ∷ [])
     ∷ (some (pos 7) ∷ some (pos 3) ∷ [])
     ∷ []
 
--- of node 16, the difference of two ranges, on both rows too
+-- of node 16, the difference of two ranges, and of node 17, on both rows too
 abbrev pub difference : Results
 difference = some (pos 1) ∷ some (pos 1) ∷ []
+
+abbrev pub negated : Results
+negated = some (minus 11) ∷ some (minus 20) ∷ []
 
 -- .. and of all: node 13 takes both columns of node 0, and node 15 takes node 4
 unfoldable pub shownResults : List Results
@@ -178,8 +185,9 @@ shownResults =
     commonResults
     ++ ((some (pos 3) ∷ some (minus 2) ∷ [])
     ∷ (some (pos 9) ∷ some (pos 4) ∷ [])
-    ∷ (some (pos 11) ∷ [])
+    ∷ (some (pos 11) ∷ some (pos 20) ∷ [])
     ∷ difference
+    ∷ negated
     ∷ [])
 
 -- .. node 13 takes both columns of node 2, and node 15 takes node 3
@@ -188,6 +196,7 @@ oppositeResults =
     commonResults
     ++ ((some (pos 2) ∷ some (minus 3) ∷ [])
     ∷ (some (pos 4) ∷ some (pos 9) ∷ [])
-    ∷ (some (pos 2) ∷ [])
+    ∷ (some (pos 2) ∷ some (pos 5) ∷ [])
     ∷ difference
+    ∷ negated
     ∷ [])

@@ -1,5 +1,5 @@
--- Category operands: which of 19 to 21 refuses, and what they are where none does.
---     list-numbered, both-numbered, both-code, code-is        19 to 21 in parts, as the code makes them
+-- Category operands: which of 19, 20, 29 and 21 refuses, and what they are where none does.
+--     list-numbered, both-numbered, both-code, code-is        these in parts, as the code makes them
 --     fine, kinds, no-text, categories, fine-listed, joint    operands that pass
 --     pair-fails, pair-joins                                  two operands that are combined
 --     union-fails, union-joins                                two that are united
@@ -14,6 +14,7 @@ use lib.Dec.{eqb}
 use borrow.Author.Tests.{eqb-true, eqb-false, ne-eqb, not-false}
 use Rattle.numbers.specs.Result.{refused, check, firstFailing}
 use Rattle.utilities.specs.Lists.{every}
+use Rattle.utilities.specs.Columns.{spreads}
 use Rattle.base.specs.Form.{Form, byteAt, natureAt, isRangeNature, listCount, wholeListsNature, floatListsNature}
 use Rattle.base.specs.Sheet.{Nature}
 use Rattle.base.specs.Decode.{natureIn}
@@ -23,54 +24,62 @@ use Rattle.base.proofs.Permitted.{permitted, nature-within}
 use Rattle.category_lists.specs.Columnwise.{Listed}
 use Rattle.orders.specs.Parts.{next}
 use Rattle.orders.proofs.Refusals.{Numbered, first-append, checked-passes, checked-refuses}
-use Rattle.orders.proofs.Passing.{Passing, all-pass}
-use Rattle.calls.specs.Natures.{listChecks, bothListChecks, unitedNature, listsUnited, combinedNature, listsPair}
+use Rattle.orders.proofs.Passing.{Passing, all-pass, pass-parts}
+use Rattle.calls.specs.Natures.{isFloatLists, noLists, listChecks, bothListChecks, unitedNature, listsUnited, combinedNature, listsPair}
 use Rattle.list_codes.specs.Code.{Lists}
 use Rattle.list_codes.proofs.Numbers.{yes-no, number-of, count-of}
 
--- ---- 19 to 21
+-- ---- 19, 20 and 29 of each, and 21
 
 -- no check has the number 0
-pub list-numbered : (k : Nature) → Numbered (listChecks k)
+pub list-numbered : (columns : ℕ) (k : Nature) → Numbered (listChecks columns k)
 unfolding every
-list-numbered k = record { all = refl }
+list-numbered columns k = record { all = refl }
 
-pub both-numbered : (l r : Nature) → Numbered (bothListChecks l r)
+pub both-numbered : (columns : ℕ) (l r : Nature) → Numbered (bothListChecks columns l r)
 unfolding every
-both-numbered l r = record { all = refl }
+both-numbered columns l r = record { all = refl }
 
 -- left's before right's, and then the kinds
-pub both-code : (l r : Nature)
-    → firstFailing (bothListChecks l r) ≡ next (firstFailing (listChecks l)) (next (firstFailing (listChecks r)) (cond (not (eqb (natureNumber l) (natureNumber r))) 21 0))
+pub both-code : (columns : ℕ) (l r : Nature)
+    → firstFailing (bothListChecks columns l r)
+    ≡ next (firstFailing (listChecks columns l)) (next (firstFailing (listChecks columns r)) (cond (not (eqb (natureNumber l) (natureNumber r))) 21 0))
 unfolding firstFailing
-both-code l r =
+both-code columns l r =
+    let x = listChecks columns l in
+    let y = listChecks columns r in
     let kinds = check 21 (not (eqb (natureNumber l) (natureNumber r))) ∷ [] in
-    first-append (listChecks l) (listChecks r ++ kinds) (list-numbered l) ∙ ap (next (firstFailing (listChecks l))) (first-append (listChecks r) kinds (list-numbered r))
+    first-append x (y ++ kinds) (list-numbered columns l) ∙ ap (next (firstFailing x)) (first-append y kinds (list-numbered columns r))
 
 -- ---- an operand
 
 -- the code of an operand's nature byte and list count
-abbrev pub codeFrom : ℕ → ℕ → ℕ
-codeFrom nature n = firstFailing (check 19 (eqb nature floatListsNature) ∷ check 20 (eqb n 0) ∷ [])
+abbrev pub codeFrom : ℕ → ℕ → ℕ → ℕ
+codeFrom columns nature n = firstFailing (check 19 (eqb nature floatListsNature) ∷ check 20 (eqb n 0) ∷ check 29 (not (spreads columns n)) ∷ [])
 
-pub code-is : {F : Form} {s : List ℕ} → Lists F s → {n k : ℕ} → n ≡ listCount F s → k ≡ codeFrom (byteAt F natureAt s) n → k ≡ firstFailing (listChecks (natureIn F s))
-code-is {F} {s} l e h = h ∙ ap₂ codeFrom (sym (number-of F s (l .read))) (e ∙ sym (count-of F s l))
+pub code-is : {F : Form} {s : List ℕ} → Lists F s → (columns : ℕ) {n k : ℕ} → n ≡ listCount F s → k ≡ codeFrom columns (byteAt F natureAt s) n
+    → k ≡ firstFailing (listChecks columns (natureIn F s))
+code-is {F} {s} l columns e h = h ∙ ap₂ (codeFrom columns) (sym (number-of F s (l .read))) (e ∙ sym (count-of F s l))
 
 -- categories that 19 and 20 pass
 pub record Fine (F : Form) (s : List ℕ) : Type 0 where
   pub lists : Lists F s
-  pub codes : Passing (listChecks (natureIn F s))
+  pub no-float : isFloatLists (natureIn F s) ≡ false
+  pub some-lists : noLists (natureIn F s) ≡ false
 
-pub fine : {F : Form} {s : List ℕ} → Lists F s → firstFailing (listChecks (natureIn F s)) ≡ 0 → Fine F s
-fine {F} {s} l e = record { lists = l; codes = all-pass (listChecks (natureIn F s)) (list-numbered (natureIn F s)) e }
+passing-fine : {F : Form} {s : List ℕ} → Lists F s → (columns : ℕ) → Passing (listChecks columns (natureIn F s)) → Fine F s
+passing-fine l columns p = record { lists = l; no-float = p .0; some-lists = p .1 .0 }
+
+pub fine : {F : Form} {s : List ℕ} → Lists F s → (columns : ℕ) → firstFailing (listChecks columns (natureIn F s)) ≡ 0 → Fine F s
+fine {F} {s} l columns e = passing-fine l columns (all-pass (listChecks columns (natureIn F s)) (list-numbered columns (natureIn F s)) e)
 
 module _ {F : Form} {s : List ℕ} (f : Fine F s) where
-  no-float : byteAt F natureAt s ≡ 5 → ⊥
-  no-float e = eqb-false (natureNumber (natureIn F s)) 5 (f .codes .0) (number-of F s (f .lists .read) ∙ e)
+  not-float : byteAt F natureAt s ≡ 5 → ⊥
+  not-float e = eqb-false (natureNumber (natureIn F s)) 5 (f .no-float) (number-of F s (f .lists .read) ∙ e)
 
   -- whole, bool or text
   pub kinds : (byteAt F natureAt s ≡ 3) ⊎ ((byteAt F natureAt s ≡ 4) ⊎ (byteAt F natureAt s ≡ 6))
-  kinds = go (byteAt F natureAt s) (nature-within F s (permitted F s (f .lists .read .fields))) (f .lists .present) (f .lists .no-range) no-float
+  kinds = go (byteAt F natureAt s) (nature-within F s (permitted F s (f .lists .read .fields))) (f .lists .present) (f .lists .no-range) not-float
     where
       go : (k : ℕ) → k ≤ 6 → eqb k 0 ≡ false → isRangeNature k ≡ false → (k ≡ 5 → ⊥) → (k ≡ 3) ⊎ ((k ≡ 4) ⊎ (k ≡ 6))
       go zero h p r x = absurd (yes-no p)
@@ -91,7 +100,7 @@ module _ {F : Form} {s : List ℕ} (f : Fine F s) where
 
   pub fine-listed : Listed F s
   fine-listed =
-      let other = eqb-false (entryCount (natureIn F s)) 0 (f .codes .1 .0) in
+      let other = eqb-false (entryCount (natureIn F s)) 0 (f .some-lists) in
       let same = count-of F s (f .lists) in
       record { passed = f .lists .read .sizes; no-range = f .lists .no-range; some = go (listCount F s) (λ z. other (same ∙ z)) }
     where
@@ -104,34 +113,37 @@ pub record Joint (F : Form) (left right : List ℕ) : Type 0 where
   pub right-fine : Fine F right
   pub same : byteAt F natureAt left ≡ byteAt F natureAt right
 
-pub joint : {F : Form} {left right : List ℕ} → Lists F left → Lists F right → firstFailing (bothListChecks (natureIn F left) (natureIn F right)) ≡ 0 → Joint F left right
-joint {F} {left} {right} x y e =
+pub joint : {F : Form} {left right : List ℕ} → Lists F left → Lists F right → (columns : ℕ)
+    → firstFailing (bothListChecks columns (natureIn F left) (natureIn F right)) ≡ 0 → Joint F left right
+joint {F} {left} {right} x y columns e =
     let l = natureIn F left in
     let r = natureIn F right in
-    let p = all-pass (bothListChecks l r) (both-numbered l r) e in
-    let kinds = eqb-true (natureNumber l) (natureNumber r) (not-false (eqb (natureNumber l) (natureNumber r)) (p .1 .1 .1 .1 .0)) in
+    let kinds = check 21 (not (eqb (natureNumber l) (natureNumber r))) ∷ [] in
+    let lefts = pass-parts (listChecks columns l) (listChecks columns r ++ kinds) (all-pass (bothListChecks columns l r) (both-numbered columns l r) e) in
+    let rights = pass-parts (listChecks columns r) kinds (lefts .1) in
+    let number = eqb-true (natureNumber l) (natureNumber r) (not-false (eqb (natureNumber l) (natureNumber r)) (rights .1 .0)) in
     record {
-      left-fine = record { lists = x; codes = (p .0, (p .1 .0, tt)) };
-      right-fine = record { lists = y; codes = (p .1 .1 .0, (p .1 .1 .1 .0, tt)) };
-      same = sym (number-of F left (x .read)) ∙ kinds ∙ number-of F right (y .read);
+      left-fine = passing-fine x columns (lefts .0);
+      right-fine = passing-fine y columns (rights .0);
+      same = sym (number-of F left (x .read)) ∙ number ∙ number-of F right (y .read);
     }
 
 -- ---- two operands
 
-module _ (l r : Nature) where
-  pub pair-fails : {k : ℕ} → k ≡ firstFailing (bothListChecks l r) → (k ≡ 0 → ⊥) → (F : Form) (c : Component) (type columns : ℕ) → listsPair F c type columns l r ≡ refused k
+module _ (columns : ℕ) (l r : Nature) where
+  pub pair-fails : {k : ℕ} → k ≡ firstFailing (bothListChecks columns l r) → (k ≡ 0 → ⊥) → (F : Form) (c : Component) (type : ℕ) → listsPair F c type columns l r ≡ refused k
   unfolding listsPair
-  pair-fails {k} e h F c type columns = checked-refuses (combinedNature F c type columns l r) (bothListChecks l r) (sym e) (ne-eqb k 0 h)
+  pair-fails {k} e h F c type = checked-refuses (combinedNature F c type columns l r) (bothListChecks columns l r) (sym e) (ne-eqb k 0 h)
 
-  pub union-fails : {k : ℕ} → k ≡ firstFailing (bothListChecks l r) → (k ≡ 0 → ⊥) → (columns : ℕ) → listsUnited columns l r ≡ refused k
+  pub union-fails : {k : ℕ} → k ≡ firstFailing (bothListChecks columns l r) → (k ≡ 0 → ⊥) → listsUnited columns l r ≡ refused k
   unfolding listsUnited
-  union-fails {k} e h columns = checked-refuses (unitedNature columns l r) (bothListChecks l r) (sym e) (ne-eqb k 0 h)
+  union-fails {k} e h = checked-refuses (unitedNature columns l r) (bothListChecks columns l r) (sym e) (ne-eqb k 0 h)
 
-  module _ (e : firstFailing (bothListChecks l r) ≡ 0) where
-    pub pair-joins : (F : Form) (c : Component) (type columns : ℕ) → listsPair F c type columns l r ≡ combinedNature F c type columns l r
+  module _ (e : firstFailing (bothListChecks columns l r) ≡ 0) where
+    pub pair-joins : (F : Form) (c : Component) (type : ℕ) → listsPair F c type columns l r ≡ combinedNature F c type columns l r
     unfolding listsPair
-    pair-joins F c type columns = checked-passes (combinedNature F c type columns l r) (bothListChecks l r) (both-numbered l r) e
+    pair-joins F c type = checked-passes (combinedNature F c type columns l r) (bothListChecks columns l r) (both-numbered columns l r) e
 
-    pub union-joins : (columns : ℕ) → listsUnited columns l r ≡ unitedNature columns l r
+    pub union-joins : listsUnited columns l r ≡ unitedNature columns l r
     unfolding listsUnited
-    union-joins columns = checked-passes (unitedNature columns l r) (bothListChecks l r) (both-numbered l r) e
+    union-joins = checked-passes (unitedNature columns l r) (bothListChecks columns l r) (both-numbered columns l r) e

@@ -65,13 +65,13 @@ rule-some c type h = rule-is c type (ruled-apart (familyOf c) type h) ∙ ap (λ
 -- ---- two operands
 
 module _ (c : Component) (type columns : ℕ) where
-  module _ (F : Form) (left right : List ℕ) (z : firstFailing (bothListChecks (natureIn F left) (natureIn F right)) ≡ 0) where
+  module _ (F : Form) (left right : List ℕ) (z : firstFailing (bothListChecks columns (natureIn F left) (natureIn F right)) ≡ 0) where
     abbrev pair : Result Nature
     pair = listsPair F c type columns (natureIn F left) (natureIn F right)
 
     -- by left's nature
     opened : {l : Nature} → natureIn F left ≡ l → pair ≡ combinedNature F c type columns l (natureIn F right)
-    opened e = pair-joins (natureIn F left) (natureIn F right) z F c type columns ∙ ap (λ (k : Nature). combinedNature F c type columns k (natureIn F right)) e
+    opened e = pair-joins columns (natureIn F left) (natureIn F right) z F c type ∙ ap (λ (k : Nature). combinedNature F c type columns k (natureIn F right)) e
 
     -- there is no rule for bool categories
     pub other-pair : Joint F left right → (byteAt F natureAt left ≡ 6 → ⊥) → (byteAt F natureAt left ≡ 3 → ⊥) → pair ≡ refused 22
@@ -84,7 +84,7 @@ module _ (c : Component) (type columns : ℕ) where
 
       whole-pair : pair ≡ paired-by (categoryRule c type)
       whole-pair =
-          pair-joins (natureIn F left) (natureIn F right) z F c type columns
+          pair-joins columns (natureIn F left) (natureIn F right) z F c type
           ∙ ap₂ (λ (x y : Nature). combinedNature F c type columns x y) (nature-whole-lists F left e) (nature-whole-lists F right (sym (a .same) ∙ e))
 
       pub no-rule : Reached F c type right → hasRule (familyOf c) ≡ false → pair ≡ refused 22
@@ -104,14 +104,14 @@ module _ (limit : ℕ) (c : Component) (type columns : ℕ) where
   mapping l = ruled (ruleFor c type l) (λ rule. limited limit (mapped eqZ rule columns (wholeListsOf l)))
 
   module _ (F : Form) (s : List ℕ) where
-    pub alone-fails : {k : ℕ} → k ≡ firstFailing (listChecks (natureIn F s)) → (k ≡ 0 → ⊥) → listsAlone limit c type columns (natureIn F s) ≡ refused k
+    pub alone-fails : {k : ℕ} → k ≡ firstFailing (listChecks columns (natureIn F s)) → (k ≡ 0 → ⊥) → listsAlone limit c type columns (natureIn F s) ≡ refused k
     unfolding listsAlone
-    alone-fails {k} e h = checked-refuses (mapping (natureIn F s)) (listChecks (natureIn F s)) (sym e) (ne-eqb k 0 h)
+    alone-fails {k} e h = checked-refuses (mapping (natureIn F s)) (listChecks columns (natureIn F s)) (sym e) (ne-eqb k 0 h)
 
-    module _ (z : firstFailing (listChecks (natureIn F s)) ≡ 0) where
+    module _ (z : firstFailing (listChecks columns (natureIn F s)) ≡ 0) where
       alone-opened : listsAlone limit c type columns (natureIn F s) ≡ mapping (natureIn F s)
       unfolding listsAlone
-      alone-opened = checked-passes (mapping (natureIn F s)) (listChecks (natureIn F s)) (list-numbered (natureIn F s)) z
+      alone-opened = checked-passes (mapping (natureIn F s)) (listChecks columns (natureIn F s)) (list-numbered columns (natureIn F s)) z
 
       -- there is no rule for bool categories and texts
       pub other-alone : Fine F s → (byteAt F natureAt s ≡ 3 → ⊥) → listsAlone limit c type columns (natureIn F s) ≡ refused 22

@@ -1,5 +1,5 @@
 -- What the step of Pool makes between its checks and its sheet.
-use mathlib.Core.Bool.{cond, _||_}
+use mathlib.Core.Bool.{Bool, cond, _||_}
 use mathlib.Core.Option.{Option}
 use Prim.Native.Nat.{ℕ}
 use lib.IntN.{ℤ}
@@ -16,7 +16,11 @@ abbrev pub rowsIn : Rows → Result (Option ℤ)
 rowsIn (R.Are n) = ok (signedOf n)
 rowsIn R.Leave = refused 24
 
--- the refusal where the rows leave 64 bits: the nature's, unless it is 26 or 28
+-- the refusals of a nature that come behind 24 of the rows
+abbrev pub late : ℕ → Bool
+late k = eqb k 26 || eqb k 28
+
+-- the refusal where the rows leave 64 bits: the nature's, unless it comes behind
 abbrev pub behindRows : Derived → ℕ
 behindRows (D.Nature p) = 24
-behindRows (D.Refused k) = cond (eqb k 26 || eqb k 28) 24 k
+behindRows (D.Refused k) = cond (late k) 24 k

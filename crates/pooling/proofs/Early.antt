@@ -1,17 +1,16 @@
--- Pool's nature is refused by 17 to 21 alone.
---     Early          a value, or a refusal by one of these
+-- Pool's nature is refused by 17 to 21 and 29 alone: by what comes before the rows' 24, and not by 26 or 28, which come behind.
+--     Early          a value, or a refusal by one of the first
 --     pool-early     Pool's nature
 -- Assumes nothing.
 use mathlib.Core.Path.{_≡_, refl, sym, ap, subst, _∙_}
-use mathlib.Core.Bool.{Bool, true, false, cond}
+use mathlib.Core.Bool.{Bool, true, false, cond, not}
 use mathlib.Core.List.{List, [], _∷_}
 use mathlib.Core.Option.{Option, none, some}
-use Prim.Native.Nat.{ℕ, _≤_}
-use native.Mathlib.Omega.{arith}
+use Prim.Native.Nat.{ℕ}
 use lib.IntN.{ℤ}
 use lib.Ieee.{Float}
-use lib.Dec.{T, eqb, leb}
-use borrow.Author.Tests.{leb-true}
+use lib.Dec.{T, eqb}
+use borrow.Author.Tests.{not-true}
 use Rattle.numbers.specs.Result.{Result, ok, refused, andThen, Check, checked}
 use Rattle.numbers.specs.Kind.{Kind, Span, whole, float, eqZ, lesser, greater}
 use Rattle.utilities.specs.Lists.{every, repeated, standardized}
@@ -27,26 +26,27 @@ use Rattle.ends.specs.Ends.{fromTwo, poolEnds, endRule}
 use Rattle.ends.specs.Ranges.{wholeRule, rangePair}
 use Rattle.category_lists.specs.Categories.{sameText, union, united}
 use Rattle.calls.specs.Natures.{wholeListsOf, boolListsOf, textListsOf, bothListChecks, unitedNature, listsUnited, wholeRangeWith, floatRangeWith, listsWith, twoNatures, poolNature}
+use Rattle.pool_fields.specs.Code.{late}
 
--- a value, or a refusal by one of these
+-- a value, or another refusal
 abbrev pub Early : {X : Type 0} → Result X → Type 0
 Early (ok x) = Unit {0}
-Early (refused k) = k ≤ 21
+Early (refused k) = late k ≡ false
 
 then-early : {X Y : Type 0} (g : Result X) (rest : X → Result Y) → Early g → ((x : X) → Early (rest x)) → Early (andThen g rest)
 then-early (ok x) rest p f = f x
 then-early (refused k) rest p f = p
 
-cond-early : {X : Type 0} (t : Bool) {k : ℕ} (rest : Result X) → k ≤ 21 → Early rest → Early (cond t (refused k) rest)
-cond-early true rest h p = h
-cond-early false rest h p = p
+cond-early : {X : Type 0} (t : Bool) (k : ℕ) (rest : Result X) → late k ≡ false → Early rest → Early (cond t (refused k) rest)
+cond-early true k rest h p = h
+cond-early false k rest h p = p
 
-checked-early : {X : Type 0} (cs : List Check) (rest : Result X) → every (λ c. leb (c .number) 21) cs ≡ true → Early rest → Early (checked cs rest)
+checked-early : {X : Type 0} (cs : List Check) (rest : Result X) → every (λ c. not (late (c .number))) cs ≡ true → Early rest → Early (checked cs rest)
 unfolding checked every
 checked-early [] rest e p = p
 checked-early (c ∷ cs) rest e p =
-    let b = both-hold (leb (c .number) 21) (every (λ c. leb (c .number) 21) cs) e in
-    cond-early (c .fails) (checked cs rest) (leb-true (c .number) 21 (b .0)) (checked-early cs rest (b .1) p)
+    let b = both-hold (not (late (c .number))) (every (λ c. not (late (c .number))) cs) e in
+    cond-early (c .fails) (c .number) (checked cs rest) (not-true (late (c .number)) (b .0)) (checked-early cs rest (b .1) p)
 
 each-early : {X Y : Type 0} (rule : X → X → Result Y) → ((x y : X) → Early (rule x y)) → (xs ys : List X) → Early (eachPair rule xs ys)
 unfolding eachPair
@@ -87,14 +87,14 @@ united-early columns (textLists ls) r = then-early (united sameText columns ls (
 
 together-early : (columns : ℕ) (l r : Nature) → Early (listsUnited columns l r)
 unfolding listsUnited every
-together-early columns l r = checked-early (bothListChecks l r) (unitedNature columns l r) refl (united-early columns l r)
+together-early columns l r = checked-early (bothListChecks columns l r) (unitedNature columns l r) refl (united-early columns l r)
 
 module _ (type columns : ℕ) where
   whole-early : (xs : List (Span ℤ)) (r : Nature) → Early (wholeRangeWith C.Pool type columns (listsUnited columns) xs r)
   unfolding wholeRangeWith wholeRule endRule
   whole-early xs absent = tt
   whole-early xs (wholeRange ys) = then-early (rangePair (wholeRule C.Pool type) columns xs ys) _ (range-early (wholeRule C.Pool type) (ends-early whole) columns xs ys) (λ zs. tt)
-  whole-early xs (floatRange ys) = omega arith
+  whole-early xs (floatRange ys) = refl
   whole-early xs (wholeLists ms) = tt
   whole-early xs (boolLists ms) = tt
   whole-early xs (floatLists ms) = tt
@@ -103,7 +103,7 @@ module _ (type columns : ℕ) where
   float-early : (xs : List (Span Float)) (r : Nature) → Early (floatRangeWith C.Pool type columns (listsUnited columns) xs r)
   unfolding floatRangeWith endRule
   float-early xs absent = tt
-  float-early xs (wholeRange ys) = omega arith
+  float-early xs (wholeRange ys) = refl
   float-early xs (floatRange ys) = then-early (rangePair (endRule float C.Pool) columns xs ys) _ (range-early (endRule float C.Pool) (ends-early float) columns xs ys) (λ zs. tt)
   float-early xs (wholeLists ms) = tt
   float-early xs (boolLists ms) = tt

@@ -1,18 +1,16 @@
 -- From the code of the checks, the derived nature and the rows to what Pool's step answers.
 --     pool-columns                          the output columns are within their limits
 --     pool-refused                          a check refuses
---     rows-refused                          the rows leave 64 bits: 24, unless 17 to 21 refuse
+--     rows-refused                          the rows leave 64 bits: 24, unless 17 to 21 or 29 refuse
 --     pool-nature-refused, pool-written     they do not: the nature refuses, 26 and 28 included, or the sheet is written
 -- Assumes nothing.
 use mathlib.Core.Path.{_≡_, refl, sym, ap, subst, _∙_}
-use mathlib.Core.Bool.{Bool, true, false, cond, _||_}
+use mathlib.Core.Bool.{Bool, true, false, cond}
 use mathlib.Core.List.{List}
 use mathlib.Core.Option.{Option}
-use Prim.Native.Nat.{ℕ, _≤_}
-use native.Mathlib.Omega.{arith}
+use Prim.Native.Nat.{ℕ}
 use lib.IntN.{ℤ, pos}
-use lib.Dec.{eqb, ltb}
-use borrow.Author.Tests.{ne-eqb}
+use lib.Dec.{ltb}
 use Rattle.numbers.specs.Result.{Result, ok, refused, andThen, checked, firstFailing}
 use Rattle.numbers.proofs.Results.{never}
 use Rattle.base.specs.Form.{Form}
@@ -36,7 +34,7 @@ use Rattle.calls.specs.Natures.{poolNature}
 use Rattle.calls.specs.Derive.{derivePool}
 use Rattle.deliveries.proofs.Columns.{Limited, widest-limited}
 use Rattle.deliveries.proofs.Answers.{check-refuses, checks-pass, nature-refuses, nature-given, sheet-bytes}
-use Rattle.pool_fields.specs.Code.{behindRows}
+use Rattle.pool_fields.specs.Code.{late, behindRows}
 use Rattle.pooling.proofs.Early.{Early, pool-early}
 
 pub pool-columns :
@@ -49,21 +47,17 @@ pool-columns F left right h k e lh rh width =
     widest-limited F left right h k (all-pass (poolChecks l r) (pool-numbered l r) e .1 .1 .1 .1 .1 .0) lh rh width
 
 -- a nature that is not kept is refused by 26 or 28
-over : (F : Form) (n : Nature) {k : ℕ} → refused k ≡ inWriting F (kept F n) → (eqb k 26 || eqb k 28) ≡ true
+over : (F : Form) (n : Nature) {k : ℕ} → refused k ≡ inWriting F (kept F n) → late k ≡ true
 unfolding keptTo textKept
 over F n h = go (ltb (F .categoryLimit) (valueCount n)) h
   where
-    long : (t : Bool) {k : ℕ} → refused k ≡ inWriting F (cond t (refused 28) (ok n)) → (eqb k 26 || eqb k 28) ≡ true
+    long : (t : Bool) {k : ℕ} → refused k ≡ inWriting F (cond t (refused 28) (ok n)) → late k ≡ true
     long true {k} h = let e : k ≡ 28 = cc in rw e
     long false h = absurd (never (sym h))
 
-    go : (t : Bool) {k : ℕ} → refused k ≡ inWriting F (andThen (cond t (refused 26) (ok n)) (textKept (F .textLimit))) → (eqb k 26 || eqb k 28) ≡ true
+    go : (t : Bool) {k : ℕ} → refused k ≡ inWriting F (andThen (cond t (refused 26) (ok n)) (textKept (F .textLimit))) → late k ≡ true
     go true {k} h = let e : k ≡ 26 = cc in rw e
     go false h = long (ltb (F .textLimit) (textSize n)) h
-
--- 17 to 21 are neither
-early : (k : ℕ) → k ≤ 21 → (eqb k 26 || eqb k 28) ≡ false
-early k h = rw (ne-eqb k 26 (λ z. omega (arith, h, z)), ne-eqb k 28 (λ z. omega (arith, h, z)))
 
 module _ (F : Form) (c : Component) (node : ℕ) (left right : List ℕ) {k : ℕ} (code : k ≡ firstFailing (poolChecks (decode F left) (decode F right))) where
   abbrev l : Sheet
@@ -78,7 +72,7 @@ module _ (F : Form) (c : Component) (node : ℕ) (left right : List ℕ) {k : �
   abbrev poolAnswer : Result (List ℕ)
   poolAnswer = andThen (derivePool F c l r) (λ s. ok (bytes s))
 
-  -- 17 to 21; the rows; what both leave
+  -- 17 to 21 and 29; the rows; what both leave
   abbrev nature : Result Nature
   nature = poolNature c (l .fields .dataType) (widest (l .fields) (r .fields)) (l .nature) (r .nature)
 
@@ -123,7 +117,7 @@ module _ (F : Form) (c : Component) (node : ℕ) (left right : List ℕ) {k : �
         go e (refused k) p (D.Nature q) h = absurd (never h)
         go e (refused k) p (D.Refused m) h =
             let same : m ≡ k = cc in
-            ap (λ (b : Bool). refused (cond b 24 m)) (early m (subst (λ (n : ℕ). n ≤ 21) (sym same) p)) ∙ ap refused same
+            ap (λ (b : Bool). refused (cond b 24 m)) (subst (λ (n : ℕ). late n ≡ false) (sym same) p) ∙ ap refused same
 
     module _ (n : Option ℤ) (sum : ok n ≡ rowsSum (x .rows) (y .rows)) where
       -- the rows known, 26 and 28 follow the nature

@@ -15,7 +15,7 @@ use Rattle.numbers.specs.Result.{Result, ok, refused, Check, check}
 use Rattle.numbers.specs.Kind.{Span, whole, float, eqZ}
 use Rattle.utilities.specs.Lists.{every}
 use Rattle.base.specs.Form.{Form}
-use Rattle.base.specs.Sheet.{Sheet, Nature, absent, wholeRange, floatRange, wholeLists, boolLists, floatLists, textLists}
+use Rattle.base.specs.Sheet.{Sheet, Nature, absent, wholeRange, floatRange, wholeLists, boolLists, floatLists, textLists, isLists}
 use Rattle.base.specs.Bounds.{wholeLowersPresent}
 use Rattle.base.specs.Checks.{read, sheetChecks}
 use Rattle.base.specs.Components.{componentOf, familyOf, isUnary}
@@ -35,7 +35,6 @@ use Rattle.orders.proofs.Passing.{Passing, pass-parts, bounds-int}
 use Rattle.calls.specs.Natures.{ruleFor, wholeListsOf, boolListsOf, textListsOf, listChecks, bothListChecks, unitedNature, listsUnited, combinedNature, listsPair, listsAlone, wholeRangeWith, floatRangeWith, listsWith, twoNatures, binaryNature, poolNature, unaryNature}
 use Rattle.calls.specs.Derive.{deriveUnary, derivePair, deriveCopy, derivePool, deriveBy, derive}
 use Rattle.calls.specs.Single.{Outcome, stepSheet, step, delivery, singleOf, single}
-use Rattle.step_laws.specs.Unreached.{isLists}
 use Rattle.step_laws.proofs.Clear.{Clear, value, other, then-clear, cond-clear, others, checked-clear, whole-clear, float-clear, rows-clear, rule-clear, whole-rule-clear, range-pair-clear, range-alone-clear, combined-clear, mapped-clear, united-clear, kept-clear, limited-clear, ClearRule, no-rule, by-rule, category-clear, text-rule-clear}
 
 -- ---- natures
@@ -100,7 +99,7 @@ united-nature-clear columns (textLists ls) r = then-clear _ (united-clear sameTe
 pool-clear : (c : Component) (type columns : ℕ) (l r : Nature) → Clear (poolNature c type columns l r)
 unfolding listsUnited every
 pool-clear c type columns l r =
-    natures-clear c type columns (listsUnited columns) l r (λ h. checked-clear (bothListChecks l r) refl (λ p. united-nature-clear columns l r))
+    natures-clear c type columns (listsUnited columns) l r (λ h. checked-clear (bothListChecks columns l r) refl (λ p. united-nature-clear columns l r))
 
 -- two operands
 module _ (F : Form) (c : Component) (type columns : ℕ) where
@@ -119,7 +118,7 @@ module _ (F : Form) (c : Component) (type columns : ℕ) where
 
   pair-clear : isIntCopy (familyOf c) type ≡ false → (l r : Nature) → Clear (listsPair F c type columns l r)
   unfolding listsPair every
-  pair-clear e l r = checked-clear (bothListChecks l r) refl (λ p. combined-nature-clear e l r)
+  pair-clear e l r = checked-clear (bothListChecks columns l r) refl (λ p. combined-nature-clear e l r)
 
   -- a pair of categories meets no rule of Modulo, Log and Power on Int
   abbrev Apart : Nature → Type 0
@@ -146,7 +145,7 @@ module _ (limit : ℕ) (c : Component) (type columns : ℕ) where
   alone-clear : isIntCopy (familyOf c) type ≡ false → (l : Nature) → Clear (listsAlone limit c type columns l)
   unfolding listsAlone every
   alone-clear e l =
-      checked-clear (listChecks l) refl
+      checked-clear (listChecks columns l) refl
       (λ p. ruled-clear (ruleFor c type l) _ (rule-for-clear e l) (λ rule f. limited-clear limit (mapped-clear eqZ rule f columns (wholeListsOf l))))
 
   unary-clear : isIntCopy (familyOf c) type ≡ false → (l : Nature) → Clear (unaryNature limit c type columns l)

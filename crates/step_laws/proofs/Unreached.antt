@@ -17,7 +17,7 @@ use Rattle.numbers.proofs.Results.{then-refused}
 use Rattle.utilities.specs.Lists.{every, has}
 use Rattle.utilities.proofs.Built.{both-hold}
 use Rattle.base.specs.Form.{Form, intType, floatType}
-use Rattle.base.specs.Sheet.{Sheet, Nature, absent, wholeRange, floatRange, wholeLists, boolLists, floatLists, textLists, isWholeRange}
+use Rattle.base.specs.Sheet.{Sheet, Nature, absent, wholeRange, floatRange, wholeLists, boolLists, floatLists, textLists, isWholeRange, isLists}
 use Rattle.base.specs.Bounds.{everyEntry, lowersPresent, wholeLowersPresent}
 use Rattle.base.specs.Components.{familyOf}
 use Rattle.base.specs.declared.Component.{Component}
@@ -28,7 +28,7 @@ use Rattle.shape.specs.Shape.{columnsOf, columnsAbsent}
 use Rattle.orders.specs.Orders.{bothOf, boundChecks, copyChecks}
 use Rattle.calls.specs.Natures.{bothListChecks, combinedNature, listsPair, listsWith, twoNatures, binaryNature}
 use Rattle.calls.specs.Derive.{deriveCopy, derive}
-use Rattle.step_laws.specs.Unreached.{RefusedWith, isLists, readsRight}
+use Rattle.step_laws.specs.Unreached.{RefusedWith, readsRight}
 use Rattle.step_laws.proofs.Never.{and-no}
 
 -- ---- checks in a row that refuse
@@ -136,7 +136,7 @@ categories-unreached F c l r e h =
 -- ---- Power of other types
 
 abbrev unruled : List ℕ
-unruled = 6 ∷ 7 ∷ 11 ∷ 14 ∷ 19 ∷ 20 ∷ 21 ∷ 22 ∷ []
+unruled = 6 ∷ 7 ∷ 11 ∷ 14 ∷ 19 ∷ 20 ∷ 29 ∷ 21 ∷ 22 ∷ []
 
 module _ (F : Form) (type columns : ℕ) (e : eqb type intType ≡ false) where
   no-power-rule : (l r : Nature) → combinedNature F C.Power type columns l r ≡ refused 22
@@ -152,7 +152,7 @@ module _ (F : Form) (type columns : ℕ) (e : eqb type intType ≡ false) where
   lists-refused : (l r : Nature) → RefusedWith unruled (listsPair F C.Power type columns l r)
   unfolding listsPair every has
   lists-refused l r =
-      refused-after unruled _ (bothListChecks l r) refl
+      refused-after unruled _ (bothListChecks columns l r) refl
       (record { number = 22; among = refl; is = no-power-rule l r })
 
   with-refused : (l r : Nature) → isLists r ≡ true → RefusedWith unruled (listsWith C.Power type columns (listsPair F C.Power type columns) l r)
@@ -178,7 +178,7 @@ module _ (F : Form) (type columns : ℕ) (e : eqb type intType ≡ false) where
 -- 01: "Float Power has none": two category operands of a Power that is not of type Int
 pub float-power-refused :
     (F : Form) (l r : Sheet) → eqb (l .fields .dataType) intType ≡ false → isLists (l .nature) ≡ true → isLists (r .nature) ≡ true
-    → RefusedWith (6 ∷ 7 ∷ 11 ∷ 14 ∷ 19 ∷ 20 ∷ 21 ∷ 22 ∷ []) (derive F C.Power l r)
+    → RefusedWith (6 ∷ 7 ∷ 11 ∷ 14 ∷ 19 ∷ 20 ∷ 29 ∷ 21 ∷ 22 ∷ []) (derive F C.Power l r)
 unfolding derive deriveCopy every has
 float-power-refused F l r e g h =
     let w = nature-refused F (l .fields .dataType) (columnsOf (l .fields)) e (l .nature) (r .nature) g h in

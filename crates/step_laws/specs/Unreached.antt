@@ -7,7 +7,6 @@ use lib.Dec.{eqb}
 use Rattle.numbers.specs.Result.{Result, refused}
 use Rattle.utilities.specs.Lists.{has}
 use Rattle.base.specs.Form.{intType}
-use Rattle.base.specs.Sheet.{Nature, absent, wholeRange, floatRange, wholeLists, boolLists, floatLists, textLists}
 use Rattle.base.specs.declared.Component.{Component}
 use Rattle.base.specs.declared.Component.the-variants as C
 
@@ -16,16 +15,6 @@ pub record RefusedWith (listed : List ℕ) {X : Type 0} (g : Result X) : Type 0 
   pub number : ℕ
   pub among : has eqb number listed ≡ true
   pub is : g ≡ refused number
-
--- categories of any kind
-abbrev pub isLists : Nature → Bool
-isLists absent = false
-isLists (wholeRange rs) = false
-isLists (floatRange rs) = false
-isLists (wholeLists ls) = true
-isLists (boolLists ls) = true
-isLists (floatLists ls) = true
-isLists (textLists ls) = true
 
 -- 15: the component reads right's bounds, by left's type
 abbrev pub readsRight : Component → ℕ → Bool

@@ -1,4 +1,4 @@
--- `list_codes::both_lists_code` meets its contract: left's 19 and 20, then right's, then 21. Assumes nothing.
+-- `list_codes::both_lists_code` meets its contract: left's 19, 20 and 29, then right's, then 21. Assumes nothing.
 use mathlib.Core.Path.{_≡_, sym, _∙_}
 use mathlib.Core.Bool.{cond, not}
 use lib.Dec.{eqb}
@@ -16,11 +16,11 @@ use Rattle.list_codes.proofs.both_lists_code.Statement.{statement}
 use Rattle.list_codes.proofs.both_lists_code.Tie as tie
 
 -- the two codes are those of the two natures
-left-is : (c : tie.After-lists-code) → let a = c .before .before .before .before .before .before .args in c .lists-code .result ≡ firstFailing (listChecks (natureIn (formOf (a .f)) (now (a .left))))
-left-is c = code-is (c .before .before .before .before .before .before .pre .0) (c .before .sizes-at .ensures .lists) (rw (c .before .before .before .nature-of .ensures) at (c .lists-code .ensures))
+left-is : (c : tie.After-lists-code) → let a = c .before .before .before .before .before .before .args in c .lists-code .result ≡ firstFailing (listChecks (a .columns) (natureIn (formOf (a .f)) (now (a .left))))
+left-is c = code-is (c .before .before .before .before .before .before .pre .0) (c .before .before .before .before .before .before .args .columns) (c .before .sizes-at .ensures .lists) (rw (c .before .before .before .nature-of .ensures) at (c .lists-code .ensures))
 
-right-is : (c : tie.After-lists-code2) → let a = c .before .before .before .before .before .before .before .before .before .args in c .lists-code2 .result ≡ firstFailing (listChecks (natureIn (formOf (a .f)) (now (a .right))))
-right-is c = code-is (c .before .before .before .before .before .before .before .before .before .pre .1) (c .before .sizes-at2 .ensures .lists) (rw (c .before .before .before .before .before .nature-of2 .ensures) at (c .lists-code2 .ensures))
+right-is : (c : tie.After-lists-code2) → let a = c .before .before .before .before .before .before .before .before .before .args in c .lists-code2 .result ≡ firstFailing (listChecks (a .columns) (natureIn (formOf (a .f)) (now (a .right))))
+right-is c = code-is (c .before .before .before .before .before .before .before .before .before .pre .1) (c .before .before .before .before .before .before .before .before .before .args .columns) (c .before .sizes-at2 .ensures .lists) (rw (c .before .before .before .before .before .nature-of2 .ensures) at (c .lists-code2 .ensures))
 
 returns : tie.Need-returns
 returns c =
@@ -34,7 +34,7 @@ returns-2 c =
     rw (both-code, ← left-is k, ← right-is m, eq-eqb (k .lists-code .result) 0 (c .before .before .before .if1 .left), ne-eqb (m .lists-code2 .result) 0 (c .if2 .taken))
 
 -- both pass, and the natures' numbers are those that were read
-kinds : (c : tie.Else2) → let a = c .before .before .before .before .before .before .before .before .before .before .args in firstFailing (bothListChecks (natureIn (formOf (a .f)) (now (a .left))) (natureIn (formOf (a .f)) (now (a .right)))) ≡ cond (not (eqb (c .before .before .before .before .before .before .before .nature-of .result) (c .before .before .before .before .before .before .nature-of2 .result))) 21 0
+kinds : (c : tie.Else2) → let a = c .before .before .before .before .before .before .before .before .before .before .args in firstFailing (bothListChecks (a .columns) (natureIn (formOf (a .f)) (now (a .left))) (natureIn (formOf (a .f)) (now (a .right)))) ≡ cond (not (eqb (c .before .before .before .before .before .before .before .nature-of .result) (c .before .before .before .before .before .before .nature-of2 .result))) 21 0
 kinds c =
     let a = c .before .before .before .before .before .before .before .before .before .before .args in
     let p = c .before .before .before .before .before .before .before .before .before .before .pre in

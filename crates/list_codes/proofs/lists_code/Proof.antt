@@ -1,4 +1,7 @@
 -- `list_codes::lists_code` meets its contract. Assumes nothing.
+use mathlib.Core.Path.{_≡_, sym, ap, _∙_}
+use mathlib.Core.Bool.{Bool, not}
+use borrow.Author.Needs.{needs}
 use borrow.Author.Tests.{eq-eqb, ne-eqb}
 use Rattle.numbers.specs.Result.{firstFailing}
 use Rattle.list_codes.proofs.lists_code.Statement.{statement}
@@ -17,8 +20,14 @@ returns-2 c =
 returns-3 : tie.Need-returns-3
 unfolding firstFailing
 returns-3 c =
-    let a = c .before .before .args in
-    rw (ne-eqb (a .nature) 5 (c .before .if1 .left), ne-eqb (a .lists) 0 (c .if2 .left))
+    let a = c .before .before .before .before .args in
+    rw (ne-eqb (a .nature) 5 (c .before .before .before .if1 .left), ne-eqb (a .lists) 0 (c .before .before .if2 .left), ap not (sym (c .before .spreads .ensures)) ∙ c .if3 .taken)
+
+returns-4 : tie.Need-returns-4
+unfolding firstFailing
+returns-4 c =
+    let a = c .before .before .before .before .args in
+    rw (ne-eqb (a .nature) 5 (c .before .before .before .if1 .left), ne-eqb (a .lists) 0 (c .before .before .if2 .left), ap not (sym (c .before .spreads .ensures)) ∙ c .if3 .left)
 
 pub lists-code-spec : {M : Type 1} → statement M
-lists-code-spec = tie.close (tie.spec returns returns-2 returns-3)
+lists-code-spec = tie.close (tie.spec returns returns-2 (λ c κs. search needs) returns-3 returns-4)

@@ -27,15 +27,15 @@ returns : tie.Need-returns
 returns c =
     let a = c .before .before .before .before .before .before .before .args in
     let F = formOf (a .f) in
-    let e = pair-fails (natureIn F (now (a .left))) (natureIn F (now (a .right))) (c .before .both-lists-code .ensures) (c .if1 .taken) F (a .c) (a .data-type) (a .columns) in
+    let e = pair-fails (a .columns) (natureIn F (now (a .left))) (natureIn F (now (a .right))) (c .before .both-lists-code .ensures) (c .if1 .taken) F (a .c) (a .data-type) in
     (ap (inWriting F) (sym e), tt)
 
--- 19 to 21 have passed
-none : (c : tie.Else1) → let a = c .before .before .before .before .before .before .before .args in firstFailing (bothListChecks (natureIn (formOf (a .f)) (now (a .left))) (natureIn (formOf (a .f)) (now (a .right)))) ≡ 0
+-- 19, 20, 29 and 21 have passed
+none : (c : tie.Else1) → let a = c .before .before .before .before .before .before .before .args in firstFailing (bothListChecks (a .columns) (natureIn (formOf (a .f)) (now (a .left))) (natureIn (formOf (a .f)) (now (a .right)))) ≡ 0
 none c = sym (c .before .both-lists-code .ensures) ∙ c .if1 .left
 
 pass : (c : tie.Else1) → let a = c .before .before .before .before .before .before .before .args in Joint (formOf (a .f)) (now (a .left)) (now (a .right))
-pass c = joint (c .before .before .before .before .before .before .before .pre .0 .0) (c .before .before .before .before .before .before .before .pre .0 .1) (none c)
+pass c = joint (c .before .before .before .before .before .before .before .pre .0 .0) (c .before .before .before .before .before .before .before .pre .0 .1) (c .before .before .before .before .before .before .before .args .columns) (none c)
 
 joined-texts-requires : tie.Need-joined-texts-requires
 joined-texts-requires c κs =
@@ -57,7 +57,7 @@ returns-2 c =
     let a = c .before .before .before .before .before .before .before .before .before .before .before .before .before .before .before .before .before .before .before .before .before .before .args in
     let F = formOf (a .f) in
     let call = c .before .before .before .before .before .before .before .joined-texts .ensures in
-    let e = pair-joins (natureIn F (now (a .left))) (natureIn F (now (a .right))) (none (c .before .before .before .before .before .before .before .before .before .before .before .before .before .before .before)) F (a .c) (a .data-type) (a .columns) in
+    let e = pair-joins (a .columns) (natureIn F (now (a .left))) (natureIn F (now (a .right))) (none (c .before .before .before .before .before .before .before .before .before .before .before .before .before .before .before)) F (a .c) (a .data-type) in
     (call .0 ∙ ap (inWriting F) (sym e), call .1)
 
 -- neither texts

@@ -22,8 +22,8 @@ sizes-at-requires : tie.Need-sizes-at-requires
 sizes-at-requires c κs = stands (c .before .before .before .before .before .pre .0 .0 .read)
 
 -- the code is that of the nature
-code : (c : tie.After-lists-code) → let a = c .before .before .before .before .before .before .before .args in c .lists-code .result ≡ firstFailing (listChecks (natureIn (formOf (a .f)) (now (a .s))))
-code c = code-is (c .before .before .before .before .before .before .before .pre .0 .0) (c .before .sizes-at .ensures .lists) (rw (c .before .before .nature-of .ensures) at (c .lists-code .ensures))
+code : (c : tie.After-lists-code) → let a = c .before .before .before .before .before .before .before .args in c .lists-code .result ≡ firstFailing (listChecks (a .columns) (natureIn (formOf (a .f)) (now (a .s))))
+code c = code-is (c .before .before .before .before .before .before .before .pre .0 .0) (c .before .before .before .before .before .before .before .args .columns) (c .before .sizes-at .ensures .lists) (rw (c .before .before .nature-of .ensures) at (c .lists-code .ensures))
 
 returns : tie.Need-returns
 returns c =
@@ -32,12 +32,12 @@ returns c =
     let e = alone-fails (F .categoryLimit) (a .c) (a .data-type) (a .columns) F (now (a .s)) (code (c .before)) (c .if1 .taken) in
     (ap (inWriting F) (sym e), tt)
 
--- 19 and 20 have passed
-none : (c : tie.Else1) → let a = c .before .before .before .before .before .before .before .before .args in firstFailing (listChecks (natureIn (formOf (a .f)) (now (a .s)))) ≡ 0
+-- 19, 20 and 29 have passed
+none : (c : tie.Else1) → let a = c .before .before .before .before .before .before .before .before .args in firstFailing (listChecks (a .columns) (natureIn (formOf (a .f)) (now (a .s)))) ≡ 0
 none c = sym (code (c .before)) ∙ c .if1 .left
 
 passes : (c : tie.Else1) → let a = c .before .before .before .before .before .before .before .before .args in Fine (formOf (a .f)) (now (a .s))
-passes c = fine (c .before .before .before .before .before .before .before .before .pre .0 .0) (none c)
+passes c = fine (c .before .before .before .before .before .before .before .before .pre .0 .0) (c .before .before .before .before .before .before .before .before .args .columns) (none c)
 
 whole : (c : tie.Else2) → let a = c .before .before .before .before .before .before .before .before .before .args in byteAt (formOf (a .f)) natureAt (now (a .s)) ≡ 3
 whole c = sym (c .before .before .before .before .nature-of .ensures) ∙ c .if2 .left

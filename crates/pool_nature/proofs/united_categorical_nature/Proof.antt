@@ -27,15 +27,15 @@ returns : tie.Need-returns
 returns c =
     let a = c .before .before .before .before .before .before .before .args in
     let F = formOf (a .f) in
-    let e = union-fails (natureIn F (now (a .left))) (natureIn F (now (a .right))) (c .before .both-lists-code .ensures) (c .if1 .taken) (a .columns) in
+    let e = union-fails (a .columns) (natureIn F (now (a .left))) (natureIn F (now (a .right))) (c .before .both-lists-code .ensures) (c .if1 .taken) in
     (ap (inWriting F) (sym (then-refused (kept F) e)), tt)
 
--- 19 to 21 have passed
-none : (c : tie.Else1) → let a = c .before .before .before .before .before .before .before .args in firstFailing (bothListChecks (natureIn (formOf (a .f)) (now (a .left))) (natureIn (formOf (a .f)) (now (a .right)))) ≡ 0
+-- 19, 20, 29 and 21 have passed
+none : (c : tie.Else1) → let a = c .before .before .before .before .before .before .before .args in firstFailing (bothListChecks (a .columns) (natureIn (formOf (a .f)) (now (a .left))) (natureIn (formOf (a .f)) (now (a .right)))) ≡ 0
 none c = sym (c .before .both-lists-code .ensures) ∙ c .if1 .left
 
 pass : (c : tie.Else1) → let a = c .before .before .before .before .before .before .before .args in Joint (formOf (a .f)) (now (a .left)) (now (a .right))
-pass c = joint (c .before .before .before .before .before .before .before .pre .0 .0) (c .before .before .before .before .before .before .before .pre .0 .1) (none c)
+pass c = joint (c .before .before .before .before .before .before .before .pre .0 .0) (c .before .before .before .before .before .before .before .pre .0 .1) (c .before .before .before .before .before .before .before .args .columns) (none c)
 
 -- texts
 text : (c : tie.Then2) → let a = c .before .before .before .before .before .before .before .before .before .args in byteAt (formOf (a .f)) natureAt (now (a .left)) ≡ 6
@@ -74,7 +74,7 @@ returns-2 c =
     let left = now (a .left) in
     let right = now (a .right) in
     let call = c .before .before .before .before .before .before .before .texts-together .ensures in
-    let e = union-joins (natureIn F left) (natureIn F right) (none (s .before .before)) (a .columns) in
+    let e = union-joins (a .columns) (natureIn F left) (natureIn F right) (none (s .before .before)) in
     let h = united-texts F (a .columns) left right (text s) (sym (pass (s .before .before) .same) ∙ text s) in
     (call .0 ∙ ap (inWriting F) (h ∙ ap (λ (g : Result Nature). andThen g (kept F)) (sym e)), rw (texts-room Fam.Pool F left right (texts s)) (call .1))
 
@@ -120,7 +120,7 @@ returns-3 c =
     let l = natureIn F left in
     let r = natureIn F right in
     let united = c .before .before .before .before .before .before .before .before .before .lists-united in
-    let e = union-joins l r (none (s .before .before)) (a .columns) in
+    let e = union-joins (a .columns) l r (none (s .before .before)) in
     let h = united-textless F (a .columns) l r (λ z. other s (sym (number-of F left (pass (s .before .before) .left-fine .lists .read)) ∙ z)) in
     let room = subst (λ (n : ℕ). n ≤ natureRoom Fam.Pool F left right) (lists-room Fam.Pool F left right (joins s)) (nature-room (laid (a .f)) Fam.Pool left right) in
     (united .ensures .0 ∙ ap (inWriting F) (h ∙ ap (λ (g : Result Nature). andThen g (kept F)) (sym e)), wider F _ _ room (united .result) (united .ensures .1))
