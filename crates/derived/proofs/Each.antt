@@ -2,7 +2,7 @@
 use mathlib.Core.Path.{_≡_, refl, sym, ap, _∙_}
 use mathlib.Core.Bool.{Bool, true, false, cond}
 use mathlib.Core.List.{List, [], _∷_, _++_, map}
-use Prim.Native.Nat.{ℕ, zero, suc, _+_, _≤_, _<_}
+use Prim.Native.Nat.{ℕ, zero, suc, _+_, _≤_, _<_, min}
 use native.Mathlib.Omega.{arith}
 use lib.ListN.{length, replicate, take, drop, length-replicate}
 use Rattle.numbers.specs.Result.{Result, ok}
@@ -108,7 +108,7 @@ module _ {X Y : Type 0} where
       let t = then-ok-inv (each rule xs) _ (s .after) in
       sym (ap length (ok-same (t .after))) ∙ ap suc (each-length rule xs (t .is))
 
-  pub pair-length : (rule : X → X → Result Y) (xs ys : List X) {zs : List Y} → eachPair rule xs ys ≡ ok zs → length zs ≤ length xs
+  pub pair-length : (rule : X → X → Result Y) (xs ys : List X) {zs : List Y} → eachPair rule xs ys ≡ ok zs → length zs ≡ min (length xs) (length ys)
   unfolding eachPair
   pair-length rule [] ys e = let h = ap length (ok-same e) in omega arith
   pair-length rule (x ∷ xs) [] e = let h = ap length (ok-same e) in omega arith

@@ -5,6 +5,7 @@ pub mod Values
 pub mod Each
 pub mod Fitted
 pub mod Natures
+pub mod Families
 pub mod Fractions
 pub mod Rounded
 pub mod Ordered
@@ -23,3 +24,5 @@ pub mod Ranged
 pub mod Uncrossed
 pub mod Doubles
 pub mod Infinite
+-- As many entries and lists as columns.
+pub mod Counted

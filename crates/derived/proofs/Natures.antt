@@ -1,17 +1,32 @@
--- A law of the nature derived of two natures, by the cases that have an answer of their own: nothing, 17, two ranges of one kind, and two of categories (`two-natures`).
+-- Laws of the nature that is derived.
+--     two-natures                         of two natures, by the cases that have an answer of their own: nothing, 17, two ranges of one kind, and
+--                                         two of categories
+--     categories-together                 two of categories make what categories make together
+--     kept-to, kept-value, ruled-value    what 22, 26 and 28 pass is what it was
 -- Assumes nothing.
 use mathlib.Core.Path.{_≡_, refl}
 use mathlib.Core.List.{List}
-use Prim.Native.Nat.{ℕ}
+use mathlib.Core.Option.{Option, none, some}
+use Prim.Native.Nat.{ℕ, _≤_}
+use native.Mathlib.Omega.{arith}
+use lib.Dec.{ltb}
 use lib.IntN.{ℤ}
 use lib.Ieee.{Float}
 use Rattle.numbers.specs.Result.{Result, ok, refused, andThen}
 use Rattle.numbers.specs.Kind.{Span, float}
+use Rattle.base.specs.Form.{Form, wholeListsNature}
 use Rattle.base.specs.Sheet.{Nature, absent, wholeRange, floatRange, wholeLists, boolLists, floatLists, textLists}
+use Rattle.base.specs.Encode.{natureNumber, valueCount, textSize}
 use Rattle.base.specs.declared.Component.{Component}
 use Rattle.ends.specs.Ends.{endRule}
 use Rattle.ends.specs.Ranges.{wholeRule, rangePair}
+use Rattle.category_lists.specs.Categories.{ruled, keptTo, textKept, kept}
 use Rattle.calls.specs.Natures.{wholeRangeWith, floatRangeWith, listsWith, twoNatures}
+use Rattle.derived.proofs.Values.{IfOk, value-then, value-either}
+
+-- 01: "3 whole, 4 bool, 5 float categories"; 02, S-2: "Nature 6 holds text categories"
+abbrev pub Categories : Nature → Type 0
+Categories k = wholeListsNature ≤ natureNumber k
 
 module _ (X : Result Nature → Type 0) (c : Component) (type columns : ℕ) (together : Nature → Nature → Result Nature) (nothing : X (ok absent)) (mixed : X (refused 17)) where
   abbrev OfWholes : List (Span ℤ) → List (Span ℤ) → Type 0
@@ -60,3 +75,43 @@ module _ (X : Result Nature → Type 0) (c : Component) (type columns : ℕ) (to
   two-natures (boolLists ls) r f g h = lists-with (boolLists ls) r h
   two-natures (floatLists ls) r f g h = lists-with (floatLists ls) r h
   two-natures (textLists ls) r f g h = lists-with (textLists ls) r h
+
+-- ---- two of categories
+
+module _ (c : Component) (type columns : ℕ) (together : Nature → Nature → Result Nature) where
+  with-categories : (l r : Nature) → Categories r → listsWith c type columns together l r ≡ together l r
+  unfolding listsWith
+  with-categories l absent q = absurd (omega arith)
+  with-categories l (wholeRange ys) q = absurd (omega arith)
+  with-categories l (floatRange ys) q = absurd (omega arith)
+  with-categories l (wholeLists ms) q = refl
+  with-categories l (boolLists ms) q = refl
+  with-categories l (floatLists ms) q = refl
+  with-categories l (textLists ms) q = refl
+
+  pub categories-together : (l r : Nature) → Categories l → Categories r → twoNatures c type columns together l r ≡ together l r
+  unfolding twoNatures
+  categories-together absent r p q = absurd (omega arith)
+  categories-together (wholeRange xs) r p q = absurd (omega arith)
+  categories-together (floatRange xs) r p q = absurd (omega arith)
+  categories-together (wholeLists ls) r p q = with-categories (wholeLists ls) r q
+  categories-together (boolLists ls) r p q = with-categories (boolLists ls) r q
+  categories-together (floatLists ls) r p q = with-categories (floatLists ls) r q
+  categories-together (textLists ls) r p q = with-categories (textLists ls) r q
+
+-- ---- what keeps to the limits is what it was
+
+module _ (Q : Nature → Type 0) where
+  pub kept-to : (limit : ℕ) (k : Nature) → Q k → IfOk Q (keptTo limit k)
+  unfolding keptTo
+  kept-to limit k q = value-either Q (ltb limit (valueCount k)) (refused 26) (ok k) tt q
+
+  pub kept-value : (F : Form) (k : Nature) → Q k → IfOk Q (kept F k)
+  unfolding textKept
+  kept-value F k q =
+      value-then Q Q (keptTo (F .categoryLimit) k) (textKept (F .textLimit)) (kept-to (F .categoryLimit) k q)
+      (λ n p. value-either Q (ltb (F .textLimit) (textSize n)) (refused 28) (ok n) tt p)
+
+  pub ruled-value : {E : Type 0} (o : Option (E → E → Result E)) (rest : (E → E → Result E) → Result Nature) → ((rule : E → E → Result E) → IfOk Q (rest rule)) → IfOk Q (ruled o rest)
+  ruled-value none rest h = tt
+  ruled-value (some rule) rest h = h rule

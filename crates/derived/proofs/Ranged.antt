@@ -4,34 +4,34 @@
 use mathlib.Core.Path.{_≡_, subst}
 use mathlib.Core.Bool.{true}
 use mathlib.Core.List.{List}
-use mathlib.Core.Option.{Option, none, some}
 use Prim.Native.Nat.{ℕ}
-use lib.Dec.{eqb, ltb}
+use lib.Dec.{eqb}
 use lib.IntN.{ℤ}
 use lib.Ieee.{Float}
 use borrow.Author.Tests.{not-false}
-use Rattle.numbers.specs.Result.{Result, ok, refused, Check}
+use Rattle.numbers.specs.Result.{Result, Check}
 use Rattle.numbers.specs.Kind.{Span, whole, float, eqZ}
 use Rattle.utilities.specs.Lists.{repeated}
 use Rattle.base.specs.Form.{Form}
 use Rattle.base.specs.Sheet.{Nature, absent, wholeRange, floatRange, wholeLists, boolLists, floatLists, textLists, Sheet}
 use Rattle.base.specs.Bounds.{positive, everyEntry, lowersPositive}
-use Rattle.base.specs.Encode.{valueCount, textSize}
 use Rattle.base.specs.declared.Component.{Component}
 use Rattle.base.specs.declared.Component.the-variants as C
+use Rattle.base.specs.declared.Family.{Family}
+use Rattle.base.specs.declared.Family.the-variants as Fam
 use Rattle.ends.specs.Ends.{endRule}
 use Rattle.ends.specs.Ranges.{wholeRule, rangePair, rangeAlone}
-use Rattle.category_lists.specs.Categories.{categoryRule, textRule, sameText, ruled, combined, mapped, united, keptTo, textKept, kept, limited}
-use Rattle.shape.specs.Shape.{columnsOf, widest, rowsSum}
-use Rattle.orders.specs.Orders.{unaryChecks, pairChecks, copyChecks, lastChecks, poolChecks}
+use Rattle.category_lists.specs.Categories.{categoryRule, textRule, sameText, combined, mapped, united, limited}
+use Rattle.orders.specs.Orders.{pairChecks, copyChecks, poolChecks}
 use Rattle.orders.proofs.Passing.{Passing}
 use Rattle.calls.specs.Natures.{ruleFor, wholeListsOf, boolListsOf, textListsOf, listChecks, bothListChecks, unitedNature, listsUnited, combinedNature, listsPair, listsAlone, twoNatures, binaryNature, poolNature, unaryNature}
-use Rattle.calls.specs.Derive.{deriveUnary, derivePair, deriveCopy, derivePool, derive}
+use Rattle.calls.specs.Derive.{deriveUnary, derivePair, deriveCopy, derivePool, deriveBy, derive}
 use Rattle.round_trip.specs.WellFormed.{Each}
 use Rattle.derived.proofs.Each.{each-repeated, each-both, each-any, every-each}
-use Rattle.derived.proofs.Values.{IfOk, value-then, value-either, value-passed, value-after, each-values, pair-values}
+use Rattle.derived.proofs.Values.{IfOk, value-more, value-then, value-passed, value-after, each-values, pair-values}
 use Rattle.derived.proofs.Fitted.{Any}
-use Rattle.derived.proofs.Natures.{two-natures}
+use Rattle.derived.proofs.Natures.{two-natures, kept-to, kept-value, ruled-value}
+use Rattle.derived.proofs.Families.{checksBy, natureBy, OverColumns, by-family}
 use Rattle.derived.proofs.Ordered.{Asked}
 
 -- P of every entry of a whole range, S of every entry of a float range
@@ -78,23 +78,6 @@ positive-right (boolLists ls) e = tt
 positive-right (floatLists ls) e = tt
 positive-right (textLists ls) e = tt
 
--- ---- what keeps to the limits is what it was
-
-module _ (Q : Nature → Type 0) where
-  kept-to : (limit : ℕ) (k : Nature) → Q k → IfOk Q (keptTo limit k)
-  unfolding keptTo
-  kept-to limit k q = value-either Q (ltb limit (valueCount k)) (refused 26) (ok k) tt q
-
-  kept-value : (F : Form) (k : Nature) → Q k → IfOk Q (kept F k)
-  unfolding textKept
-  kept-value F k q =
-      value-then Q Q (keptTo (F .categoryLimit) k) (textKept (F .textLimit)) (kept-to (F .categoryLimit) k q)
-      (λ n p. value-either Q (ltb (F .textLimit) (textSize n)) (refused 28) (ok n) tt p)
-
-  ruled-value : {E : Type 0} (o : Option (E → E → Result E)) (rest : (E → E → Result E) → Result Nature) → ((rule : E → E → Result E) → IfOk Q (rest rule)) → IfOk Q (ruled o rest)
-  ruled-value none rest h = tt
-  ruled-value (some rule) rest h = h rule
-
 -- the end rules make entries that are Q and T of entries that are P and S
 module _ (P Q : Span ℤ → Type 0) (S T : Span Float → Type 0)
     (wholes : (c : Component) (type : ℕ) (x y : Span ℤ) → P x → P y → Asked whole c y → IfOk Q (wholeRule c type x y))
@@ -137,7 +120,7 @@ module _ (P Q : Span ℤ → Type 0) (S T : Span Float → Type 0)
     alone-value : (limit : ℕ) (l : Nature) → IfOk Derived (listsAlone limit c type columns l)
     unfolding listsAlone
     alone-value limit l =
-        value-passed Derived (listChecks l) _
+        value-passed Derived (listChecks columns l) _
         (λ passing. ruled-value Derived (ruleFor c type l) _ (λ rule. limited-value limit (mapped eqZ rule columns (wholeListsOf l))))
 
     -- ---- two natures, of which two categories make no range together
@@ -160,11 +143,11 @@ module _ (P Q : Span ℤ → Type 0) (S T : Span Float → Type 0)
 
     binary-values : (F : Form) (l r : Nature) → Operand l → Operand r → Right r → IfOk Derived (binaryNature F c type columns l r)
     unfolding listsPair
-    binary-values F l r p q h = two-values (listsPair F c type columns) l r p q h (value-passed Derived (bothListChecks l r) _ (λ passing. combined-value F l r))
+    binary-values F l r p q h = two-values (listsPair F c type columns) l r p q h (value-passed Derived (bothListChecks columns l r) _ (λ passing. combined-value F l r))
 
     pool-values : (l r : Nature) → Operand l → Operand r → Right r → IfOk Derived (poolNature c type columns l r)
     unfolding listsUnited
-    pool-values l r p q h = two-values (listsUnited columns) l r p q h (value-passed Derived (bothListChecks l r) _ (λ passing. united-value l r))
+    pool-values l r p q h = two-values (listsUnited columns) l r p q h (value-passed Derived (bothListChecks columns l r) _ (λ passing. united-value l r))
 
     unary-values : (limit : ℕ) (l : Nature) → ((x : Span ℤ) → P x → IfOk Q (endRule whole c x x)) → ((x : Span Float) → S x → IfOk T (endRule float c x x))
         → Operand l → IfOk Derived (unaryNature limit c type columns l)
@@ -187,42 +170,21 @@ module _ (P Q : Span ℤ → Type 0) (S T : Span Float → Type 0)
     abbrev Rightly : List Check → Type 0
     Rightly cs = Passing cs → OfEntries (Asked whole c) (Asked float c) (r .nature)
 
+    ranges-by : (f : Family) → ((columns : ℕ) → Passing (checksBy c f l r) → IfOk Derived (natureBy F c f columns l r)) → IfOk DerivedSheet (deriveBy F c f l r)
+    ranges-by f h =
+        value-more (OverColumns (λ columns k. Derived k)) DerivedSheet (deriveBy F c f l r) (by-family F c l r (λ columns k. Derived k) f h) (λ s m. m .1)
+
     pair-ranges : Rightly (pairChecks l r) → IfOk DerivedSheet (derivePair F c l r)
-    unfolding derivePair
-    pair-ranges h =
-        let wide = widest (l .fields) (r .fields) in
-        value-passed DerivedSheet (pairChecks l r) _
-        (λ passing.
-        value-then Derived DerivedSheet (binaryNature F c (l .fields .dataType) wide (l .nature) (r .nature)) _
-        (binary-values c (l .fields .dataType) wide F (l .nature) (r .nature) p q (h passing)) (λ k m. m))
+    pair-ranges h = ranges-by Fam.Pair (λ columns passing. binary-values c (l .fields .dataType) columns F (l .nature) (r .nature) p q (h passing))
 
     copy-ranges : Rightly (copyChecks c l r) → IfOk DerivedSheet (deriveCopy F c l r)
-    unfolding deriveCopy
-    copy-ranges h =
-        value-passed DerivedSheet (copyChecks c l r) _
-        (λ passing.
-        value-then Derived DerivedSheet (binaryNature F c (l .fields .dataType) (columnsOf (l .fields)) (l .nature) (r .nature)) _
-        (binary-values c (l .fields .dataType) (columnsOf (l .fields)) F (l .nature) (r .nature) p q (h passing))
-        (λ k m. value-passed DerivedSheet (lastChecks l r) _ (λ passing. m)))
+    copy-ranges h = ranges-by Fam.Copy (λ columns passing. binary-values c (l .fields .dataType) columns F (l .nature) (r .nature) p q (h passing))
 
     pool-ranges : Rightly (poolChecks l r) → IfOk DerivedSheet (derivePool F c l r)
-    unfolding derivePool
-    pool-ranges h =
-        let wide = widest (l .fields) (r .fields) in
-        value-passed DerivedSheet (poolChecks l r) _
-        (λ passing.
-        value-then Derived DerivedSheet (poolNature c (l .fields .dataType) wide (l .nature) (r .nature)) _
-        (pool-values c (l .fields .dataType) wide (l .nature) (r .nature) p q (h passing))
-        (λ k m. value-after DerivedSheet (rowsSum (l .fields .rows) (r .fields .rows)) _
-        (λ rows. value-then Derived DerivedSheet (kept F k) _ (kept-value Derived F k m) (λ k′ m′. m′))))
+    pool-ranges h = ranges-by Fam.Pool (λ columns passing. pool-values c (l .fields .dataType) columns (l .nature) (r .nature) p q (h passing))
 
     unary-ranges : ((x : Span ℤ) → P x → IfOk Q (endRule whole c x x)) → ((x : Span Float) → S x → IfOk T (endRule float c x x)) → IfOk DerivedSheet (deriveUnary F c l)
-    unfolding deriveUnary
-    unary-ranges f g =
-        value-passed DerivedSheet (unaryChecks (l .fields)) _
-        (λ passing.
-        value-then Derived DerivedSheet (unaryNature (F .categoryLimit) c (l .fields .dataType) (columnsOf (l .fields)) (l .nature)) _
-        (unary-values c (l .fields .dataType) (columnsOf (l .fields)) (F .categoryLimit) (l .nature) f g p) (λ k m. m))
+    unary-ranges f g = ranges-by Fam.Unary (λ columns passing. unary-values c (l .fields .dataType) columns (F .categoryLimit) (l .nature) f g p)
 
   pub derived-ranges : (F : Form) (c : Component) (l r : Sheet) → Operand (l .nature) → Operand (r .nature) → IfOk DerivedSheet (derive F c l r)
   unfolding derive wholeRule

@@ -23,6 +23,10 @@ module _ {X : Type 0} (P : X → Type 0) where
   gives-value (ok x) p = p
   gives-value (refused k) p = tt
 
+  pub value-known : (g : Result X) → ((x : X) → g ≡ ok x → P x) → IfOk P g
+  value-known (ok x) h = h x refl
+  value-known (refused k) h = tt
+
   -- of an answer whose refusals are numbered
   pub gives-besides : (Q : X → Type 0) (g : Result X) → Gives Q g → IfOk P g → Gives (λ x. Q x × P x) g
   gives-besides Q (ok x) q p = (q, p)
@@ -52,6 +56,10 @@ module _ {X : Type 0} (P : X → Type 0) where
       go : (t : Bool) → c .fails ≡ t → (c .fails ≡ false → IfOk P (checked cs rest)) → IfOk P (cond t (refused (c .number)) (checked cs rest))
       go true e h = tt
       go false e h = h e
+
+-- the checks alone say it, whatever follows them
+pub passed-so : {X : Type 0} (A : Type 0) (cs : List Check) (rest : Result X) → (Passing cs → A) → IfOk (λ x. A) (checked cs rest)
+passed-so A cs rest h = value-passed (λ x. A) cs rest (λ passing. value-known (λ x. A) rest (λ x e. h passing))
 
 -- whatever the first is
 pub value-after : {X Y : Type 0} (Q : Y → Type 0) (g : Result X) (rest : X → Result Y) → ((x : X) → IfOk Q (rest x)) → IfOk Q (andThen g rest)
