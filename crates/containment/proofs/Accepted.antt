@@ -1,6 +1,7 @@
 -- The plan call that gives 0: every leaf passed 3 to 5 and stands as it was, and every step's slot holds the sheet derived of its operands' sheets, all as
 -- the buffer has them at the end.
---     plan-made    what an accepted call leaves in the buffer
+--     plan-made                  what an accepted call leaves in the buffer
+--     sheet-leaf, sheet-after    the sheets there, as demand 3 reads them
 -- Assumes nothing.
 use mathlib.Core.Path.{_≡_, refl, sym, ap, ap₂, subst, _∙_}
 use mathlib.Core.Bool.{Bool, true, false, cond}
@@ -10,7 +11,7 @@ use native.Mathlib.Omega.{arith}
 use lib.Dec.{eqb, ltb}
 use lib.ListN.{length, take, drop, getD, length-take, List·getD-eq-default}
 use lib.Seq.{take-take, getD-take, getD-drop}
-use borrow.Author.Tests.{eqb-true, eqb-false, ltb-true, ltb-false}
+use borrow.Author.Tests.{eqb-true, eqb-false, ltb-true, ltb-false, lt-ltb}
 use Rattle.bytes.proofs.Reread.{AllBytes}
 use Rattle.numbers.specs.Result.{Result, ok, refused}
 use Rattle.utilities.specs.Lists.{listFrom}
@@ -29,6 +30,7 @@ use Rattle.derived.proofs.Decoded.{decoded-held, read-gives}
 use Rattle.plan_form.specs.Form.{nodeLimit, noNode, nodeCount, leafCount, stepCount, leftOf, rightOf, planFails}
 use Rattle.calls.specs.Walk.{slotAt, slot, sheetIn, stepOn, unlessRefused, walk, leafThen, leavesThen, leafNodes, stepNodes, plan}
 use Rattle.plan_form.proofs.FormLaws.{Planned, planned}
+use Rattle.containment.specs.Demand.{sheetOf}
 use Rattle.containment.proofs.Slots.{sheet-same, sheetAt, Derives, Stepped, step-made}
 
 -- ---- leaves
@@ -202,3 +204,18 @@ module _ (p work : List ℕ) (small : AllBytes work) where
       passed-on (ltb (length work) (slotAt narrow (nodeCount p))) (outcome 27 noNode work) _ (Accepted p work) (omega arith)
       (λ k e. accepted-walk (planned p h) (ltb-false (length work) (slotAt narrow (nodeCount p)) k) e) e)
       e
+
+-- ---- as demand 3 reads them
+
+module _ {p work after : List ℕ} (a : Accepted p work after) where
+  pub sheet-leaf : (k : ℕ) → k < leafCount p → sheetOf narrow p work after k ≡ sheetAt k work
+  unfolding sheetOf
+  sheet-leaf k h = ap (λ (t : Bool). sheetAt k (cond t work after)) (lt-ltb k (leafCount p) h)
+
+  pub sheet-after : (k : ℕ) → sheetOf narrow p work after k ≡ sheetAt k after
+  unfolding sheetOf
+  sheet-after k = go (ltb k (leafCount p)) refl
+    where
+      go : (t : Bool) → ltb k (leafCount p) ≡ t → sheetAt k (cond t work after) ≡ sheetAt k after
+      go true e = sym (a .same k (ltb-true k (leafCount p) e))
+      go false e = refl

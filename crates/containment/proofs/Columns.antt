@@ -8,7 +8,7 @@ use Prim.Native.Nat.{ℕ, zero, suc, _<_}
 use native.Mathlib.Omega.{arith}
 use lib.Dec.{T, eqb}
 use lib.ListN.{length, getElem?, replicate, length-replicate}
-use borrow.Author.Tests.{eqb-true}
+use borrow.Author.Tests.{not-false}
 use Rattle.numbers.specs.Result.{Result, ok, andThen, check, checked}
 use Rattle.numbers.specs.Kind.{Span}
 use Rattle.numbers.proofs.Results.{then-ok-inv, checked-passed}
@@ -17,6 +17,8 @@ use Rattle.utilities.specs.Columns.{spreads, each, eachPair}
 use Rattle.utilities.proofs.Repeated.{repeated-full}
 use Rattle.ends.specs.Ranges.{rangePair, rangeAlone}
 use Rattle.derived.proofs.Answers.{ok-same}
+use Rattle.derived.proofs.Each.{pair-length}
+use Rattle.derived.proofs.Counted.{one-or-full}
 use Rattle.containment.specs.Demand.{entryFor, OneOrPerColumn}
 
 -- ---- the entry for a column
@@ -85,15 +87,6 @@ column-keeps P Q R law c p q =
     subst R (sym (c .is-value)) (law (c .left) (c .right) (c .value) (c .holds) (subst P (c .is-left) p) (subst Q (c .is-right) q))
 
 module _ {X Y : Type 0} (rule : X → X → Result Y) where
-  pairs-many : (us vs : List X) {zs : List Y} → eachPair rule us vs ≡ ok zs → length us ≡ length vs → length zs ≡ length us
-  unfolding eachPair
-  pairs-many [] vs e h = sym (ap length (ok-same e))
-  pairs-many (u ∷ us) [] e h = absurd (omega arith)
-  pairs-many (u ∷ us) (v ∷ vs) e h =
-      let s = then-ok-inv (rule u v) _ e in
-      let t = then-ok-inv (eachPair rule us vs) _ (s .after) in
-      sym (ap length (ok-same (t .after))) ∙ ap suc (pairs-many us vs (t .is) (omega arith))
-
   pairs-at : (us vs : List X) {zs : List Y} → eachPair rule us vs ≡ ok zs → length us ≡ length vs
       → (j : ℕ) → j < length us → Column rule (getElem? us j) (getElem? vs j) (getElem? zs j)
   unfolding eachPair
@@ -131,7 +124,7 @@ module _ {X Y : Type 0} (rule : X → X → Result Y) where
   spread-columns columns xs ys {zs} o p e =
       let m = repeated-many columns xs o in
       let n = repeated-many columns ys p in
-      let k = pairs-many (repeated columns xs) (repeated columns ys) e (omega arith) in
+      let k = pair-length rule (repeated columns xs) (repeated columns ys) e in
       let l : length zs ≡ columns = omega arith in
       record { many = l; at = λ j h. at j h l m n }
     where
@@ -158,12 +151,7 @@ module _ {X Y : Type 0} (rule : X → X → Result Y) where
 -- ---- ranges, whose lists 18 has passed
 
 spread-passed {ℓ} : {X : Type ℓ} (columns : ℕ) (xs : List X) → not (spreads columns (length xs)) ≡ false → OneOrPerColumn xs columns
-spread-passed columns xs e = go (eqb (length xs) columns) refl (eqb (length xs) 1) refl e
-  where
-    go : (s : Bool) → eqb (length xs) columns ≡ s → (t : Bool) → eqb (length xs) 1 ≡ t → not (s || t) ≡ false → OneOrPerColumn xs columns
-    go true h t k e = inr (eqb-true (length xs) columns h)
-    go false h true k e = inl (eqb-true (length xs) 1 k)
-    go false h false k e = absurd (subst T e tt)
+spread-passed columns xs e = one-or-full columns (length xs) (not-false (spreads columns (length xs)) e)
 
 module _ {E : Type 0} (rule : Span E → Span E → Result (Span E)) (columns : ℕ) where
   pub range-columns : (xs ys : List (Span E)) {zs : List (Span E)} → rangePair rule columns xs ys ≡ ok zs → Columnwise rule columns xs ys zs

@@ -12,7 +12,7 @@ use lib.Dec.{eqb, ltb}
 use lib.IntN.{ℤ}
 use lib.ListN.{length, getD, length-append, List·getD-append}
 use lib.Seq.{getD-at}
-use borrow.Author.Tests.{eqb-true, eqb-false, ltb-true, ltb-false, lt-ltb}
+use borrow.Author.Tests.{eqb-true, eqb-false, ltb-true, ltb-false}
 use Rattle.numbers.specs.Result.{ok}
 use Rattle.utilities.specs.Lists.{listFrom}
 use Rattle.base.specs.Form.{narrow}
@@ -37,7 +37,8 @@ use Rattle.containment.specs.Good.{Fitting, Good, stepOf}
 use Rattle.containment.proofs.Nodes.{columns-are, good-made}
 use Rattle.containment.proofs.Steps.{step-good}
 use Rattle.containment.proofs.Slots.{sheetAt}
-use Rattle.containment.proofs.Accepted.{Accepted, plan-made}
+use Rattle.containment.proofs.Accepted.{Accepted, plan-made, sheet-leaf, sheet-after}
+use Rattle.containment.proofs.Counted.{leaf-whole}
 
 -- ---- one node
 
@@ -130,27 +131,15 @@ module _ (p : List ℕ) (sheet : ℕ → Sheet) (row : Row) where
 -- ---- an accepted plan
 
 module _ (p work after : List ℕ) (a : Accepted p work after) where
-  sheet-leaf : (k : ℕ) → k < leafCount p → sheetOf narrow p work after k ≡ sheetAt k work
-  unfolding sheetOf
-  sheet-leaf k h = ap (λ (t : Bool). sheetAt k (cond t work after)) (lt-ltb k (leafCount p) h)
-
-  sheet-after : (k : ℕ) → sheetOf narrow p work after k ≡ sheetAt k after
-  unfolding sheetOf
-  sheet-after k = go (ltb k (leafCount p)) refl
-    where
-      go : (t : Bool) → ltb k (leafCount p) ≡ t → sheetAt k (cond t work after) ≡ sheetAt k after
-      go true e = sym (a .same k (ltb-true k (leafCount p) e))
-      go false e = refl
-
   module _ (h : Premises p (sheetOf narrow p work after)) (row : Row) (i : Inside p (sheetOf narrow p work after) row) where
     leaf-good : (k : ℕ) → k < leafCount p → Good (sheetOf narrow p work after k) (leafResults p (sheetOf narrow p work after) row k)
     leaf-good k b =
         let s = sheetOf narrow p work after k in
         let c = h .leafColumns k b in
         let n : columnsOf (s .fields) ≡ c .0 = ap (λ (o : Option ℕ). Option·getD o 0) (c .1) in
-        let w = leaf-one (sheetIn narrow k work) (a .passed k b) (ap (λ (s : Sheet). s .fields .columns) (sym (sheet-leaf k b)) ∙ c .1) in
+        let w = leaf-one (sheetIn narrow k work) (a .passed k b) (ap (λ (s : Sheet). s .fields .columns) (sym (sheet-leaf a k b)) ∙ c .1) in
         good-made s (c .0) (λ j. some (row .number k j)) (c .1) w
-        (whole-fitting (s .nature) (c .0) (subst (WholeNature (s .nature)) n (h .leafNatures k b)))
+        (whole-fitting (s .nature) (c .0) (subst (WholeNature (s .nature)) n (leaf-whole a h k b)))
         (λ j l. (row .number k j, refl, i .leaf k b j (omega arith)))
 
     step-made : (k : ℕ) → leafCount p ≤ k → k < nodeCount p → (xs ys : Results)
@@ -161,11 +150,11 @@ module _ (p work after : List ℕ) (a : Accepted p work after) where
         let l = sheetOf narrow p work after (leftOf p k) in
         let r = sheetOf narrow p work after (rightOf p k) in
         let e : derive narrow (d .component) l r ≡ ok (d .sheet) =
-        ap₂ (λ (x y : Sheet). derive narrow (d .component) x y) (sheet-after (leftOf p k)) (sheet-after (rightOf p k)) ∙ d .derived in
+        ap₂ (λ (x y : Sheet). derive narrow (d .component) x y) (sheet-after a (leftOf p k)) (sheet-after a (rightOf p k)) ∙ d .derived in
         let u = subst (λ (n : Numbered). Suits n l r) (d .listed) (h .components k b c) in
         let side = row .side k in
         let good = step-good side narrow (d .component) l r (d .sheet) xs ys e g f (h .operandColumns k b c) u in
-        let is = sheet-after k ∙ d .is in
+        let is = sheet-after a k ∙ d .is in
         subst
         (λ (n : Numbered). Good (sheetOf narrow p work after k) (listFrom (columnsOf (sheetOf narrow p work after k .fields)) 0 (λ j. exactOf side n (columnOf xs j) (columnOf ys j))))
         (sym (d .listed))

@@ -4,6 +4,7 @@ pub mod Answers
 pub mod Columns
 pub mod Contained
 pub mod Corners
+pub mod Counted
 pub mod Ends
 pub mod Entries
 pub mod Lists

@@ -19,7 +19,7 @@ use Rattle.numbers.specs.Kind.{Span, whole, float, eqZ}
 use Rattle.utilities.specs.Lists.{firsts, repeated, standardized}
 use Rattle.utilities.specs.Columns.{spreads, each, eachPair}
 use Rattle.base.specs.Form.{Form, wholeListsNature, boolListsNature, textListsNature}
-use Rattle.base.specs.Sheet.{Nature, absent, wholeRange, floatRange, wholeLists, boolLists, floatLists, textLists, Sheet}
+use Rattle.base.specs.Sheet.{Nature, absent, wholeRange, floatRange, wholeLists, boolLists, floatLists, textLists, isLists, Sheet}
 use Rattle.base.specs.Encode.{natureNumber, entryCount}
 use Rattle.base.specs.Components.{familyOf, isUnary}
 use Rattle.base.specs.declared.Component.{Component}
@@ -34,7 +34,7 @@ use Rattle.calls.specs.Natures.{wholeListsOf, boolListsOf, textListsOf, listChe
 use Rattle.calls.specs.Derive.{derive}
 use Rattle.derived.proofs.Each.{each-length, pair-length}
 use Rattle.derived.proofs.Values.{IfOk, value-is, value-known, value-then, value-passed, passed-so}
-use Rattle.derived.proofs.Natures.{Categories, two-natures, categories-together, kept-to, kept-value, ruled-value}
+use Rattle.derived.proofs.Natures.{two-natures, categories-together, kept-to, kept-value, ruled-value}
 use Rattle.derived.proofs.Families.{natureBy, OverColumns, by-family}
 
 -- ---- lists that 18 or 29 has counted
@@ -205,11 +205,11 @@ module _ (F : Form) (c : Component) (type columns : ℕ) where
   unfolding listsAlone
   lists-spread l = passed-so (Spread columns l) (listChecks columns l) _ (λ passing. not-false _ (passing .1 .1 .0))
 
-  alone-spread : (l : Nature) → Categories l → IfOk (λ k. Spread columns l) (unaryNature (F .categoryLimit) c type columns l)
+  alone-spread : (l : Nature) → isLists l ≡ true → IfOk (λ k. Spread columns l) (unaryNature (F .categoryLimit) c type columns l)
   unfolding unaryNature
-  alone-spread absent p = absurd (omega arith)
-  alone-spread (wholeRange xs) p = absurd (omega arith)
-  alone-spread (floatRange xs) p = absurd (omega arith)
+  alone-spread absent p = absurd (subst T (sym p) tt)
+  alone-spread (wholeRange xs) p = absurd (subst T (sym p) tt)
+  alone-spread (floatRange xs) p = absurd (subst T (sym p) tt)
   alone-spread (wholeLists ls) p = lists-spread (wholeLists ls)
   alone-spread (boolLists ls) p = lists-spread (boolLists ls)
   alone-spread (floatLists ls) p = lists-spread (floatLists ls)
@@ -218,7 +218,7 @@ module _ (F : Form) (c : Component) (type columns : ℕ) where
   both-passed : (l r : Nature) (rest : Result Nature) → IfOk (λ k. BothSpread columns l r) (checked (bothListChecks columns l r) rest)
   both-passed l r rest = passed-so (BothSpread columns l r) (bothListChecks columns l r) rest (both-spread columns l r)
 
-  module _ (l r : Nature) (p : Categories l) (q : Categories r) where
+  module _ (l r : Nature) (p : isLists l ≡ true) (q : isLists r ≡ true) where
     pair-spread : IfOk (λ k. BothSpread columns l r) (binaryNature F c type columns l r)
     unfolding listsPair
     pair-spread = rw (categories-together c type columns (listsPair F c type columns) l r p q) (both-passed l r _)
@@ -245,10 +245,10 @@ module _ (F : Form) (c : Component) (l r s : Sheet) where
       go Fam.Copy columns = binary-counted c (l .fields .dataType) columns F (l .nature) (r .nature)
       go Fam.Pool columns = pool-counted c (l .fields .dataType) columns (l .nature) (r .nature)
 
-  pub maps-counted : familyOf c ≡ Fam.Unary → derive F c l r ≡ ok s → Categories (l .nature) → spreads (columnsOf (s .fields)) (entryCount (l .nature)) ≡ true
+  pub maps-counted : familyOf c ≡ Fam.Unary → derive F c l r ≡ ok s → isLists (l .nature) ≡ true → spreads (columnsOf (s .fields)) (entryCount (l .nature)) ≡ true
   maps-counted u e p = of-derived (λ columns k. Spread columns (l .nature)) (λ columns. rw u (alone-spread F c (l .fields .dataType) columns (l .nature) p)) e .1
 
-  pub pairs-counted : isUnary (familyOf c) ≡ false → derive F c l r ≡ ok s → Categories (l .nature) → Categories (r .nature)
+  pub pairs-counted : isUnary (familyOf c) ≡ false → derive F c l r ≡ ok s → isLists (l .nature) ≡ true → isLists (r .nature) ≡ true
       → (spreads (columnsOf (s .fields)) (entryCount (l .nature)) ≡ true) × (spreads (columnsOf (s .fields)) (entryCount (r .nature)) ≡ true)
   pairs-counted u e p q = of-derived (λ columns k. BothSpread columns (l .nature) (r .nature)) (go (familyOf c) u) e .1
     where

@@ -4,29 +4,25 @@
 --     categories-together                 two of categories make what categories make together
 --     kept-to, kept-value, ruled-value    what 22, 26 and 28 pass is what it was
 -- Assumes nothing.
-use mathlib.Core.Path.{_≡_, refl}
+use mathlib.Core.Path.{_≡_, refl, sym, subst}
+use mathlib.Core.Bool.{true}
 use mathlib.Core.List.{List}
 use mathlib.Core.Option.{Option, none, some}
-use Prim.Native.Nat.{ℕ, _≤_}
-use native.Mathlib.Omega.{arith}
-use lib.Dec.{ltb}
+use Prim.Native.Nat.{ℕ}
+use lib.Dec.{T, ltb}
 use lib.IntN.{ℤ}
 use lib.Ieee.{Float}
 use Rattle.numbers.specs.Result.{Result, ok, refused, andThen}
 use Rattle.numbers.specs.Kind.{Span, float}
-use Rattle.base.specs.Form.{Form, wholeListsNature}
-use Rattle.base.specs.Sheet.{Nature, absent, wholeRange, floatRange, wholeLists, boolLists, floatLists, textLists}
-use Rattle.base.specs.Encode.{natureNumber, valueCount, textSize}
+use Rattle.base.specs.Form.{Form}
+use Rattle.base.specs.Sheet.{Nature, absent, wholeRange, floatRange, wholeLists, boolLists, floatLists, textLists, isLists}
+use Rattle.base.specs.Encode.{valueCount, textSize}
 use Rattle.base.specs.declared.Component.{Component}
 use Rattle.ends.specs.Ends.{endRule}
 use Rattle.ends.specs.Ranges.{wholeRule, rangePair}
 use Rattle.category_lists.specs.Categories.{ruled, keptTo, textKept, kept}
 use Rattle.calls.specs.Natures.{wholeRangeWith, floatRangeWith, listsWith, twoNatures}
 use Rattle.derived.proofs.Values.{IfOk, value-then, value-either}
-
--- 01: "3 whole, 4 bool, 5 float categories"; 02, S-2: "Nature 6 holds text categories"
-abbrev pub Categories : Nature → Type 0
-Categories k = wholeListsNature ≤ natureNumber k
 
 module _ (X : Result Nature → Type 0) (c : Component) (type columns : ℕ) (together : Nature → Nature → Result Nature) (nothing : X (ok absent)) (mixed : X (refused 17)) where
   abbrev OfWholes : List (Span ℤ) → List (Span ℤ) → Type 0
@@ -79,21 +75,21 @@ module _ (X : Result Nature → Type 0) (c : Component) (type columns : ℕ) (to
 -- ---- two of categories
 
 module _ (c : Component) (type columns : ℕ) (together : Nature → Nature → Result Nature) where
-  with-categories : (l r : Nature) → Categories r → listsWith c type columns together l r ≡ together l r
+  with-categories : (l r : Nature) → isLists r ≡ true → listsWith c type columns together l r ≡ together l r
   unfolding listsWith
-  with-categories l absent q = absurd (omega arith)
-  with-categories l (wholeRange ys) q = absurd (omega arith)
-  with-categories l (floatRange ys) q = absurd (omega arith)
+  with-categories l absent q = absurd (subst T (sym q) tt)
+  with-categories l (wholeRange ys) q = absurd (subst T (sym q) tt)
+  with-categories l (floatRange ys) q = absurd (subst T (sym q) tt)
   with-categories l (wholeLists ms) q = refl
   with-categories l (boolLists ms) q = refl
   with-categories l (floatLists ms) q = refl
   with-categories l (textLists ms) q = refl
 
-  pub categories-together : (l r : Nature) → Categories l → Categories r → twoNatures c type columns together l r ≡ together l r
+  pub categories-together : (l r : Nature) → isLists l ≡ true → isLists r ≡ true → twoNatures c type columns together l r ≡ together l r
   unfolding twoNatures
-  categories-together absent r p q = absurd (omega arith)
-  categories-together (wholeRange xs) r p q = absurd (omega arith)
-  categories-together (floatRange xs) r p q = absurd (omega arith)
+  categories-together absent r p q = absurd (subst T (sym p) tt)
+  categories-together (wholeRange xs) r p q = absurd (subst T (sym p) tt)
+  categories-together (floatRange xs) r p q = absurd (subst T (sym p) tt)
   categories-together (wholeLists ls) r p q = with-categories (wholeLists ls) r q
   categories-together (boolLists ls) r p q = with-categories (boolLists ls) r q
   categories-together (floatLists ls) r p q = with-categories (floatLists ls) r q

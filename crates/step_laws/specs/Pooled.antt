@@ -96,7 +96,7 @@ table =
     -- left's categories and then right's, without repeats, bool too; float ones are not united
     ∷ pool intType 1 (wholes (pos 3 ∷ pos 1 ∷ pos 3 ∷ [])) (wholes (pos 1 ∷ pos 2 ∷ [])) (wholes (pos 3 ∷ pos 1 ∷ pos 2 ∷ []))
     ∷ pool intType 1 (bools (1 ∷ [])) (bools (0 ∷ 1 ∷ [])) (bools (1 ∷ 0 ∷ []))
-    ∷ pool intType 3 (wholeLists ((pos 1 ∷ []) ∷ (pos 2 ∷ []) ∷ [])) (wholes (pos 5 ∷ [])) (wholeLists ((pos 1 ∷ pos 5 ∷ []) ∷ (pos 2 ∷ pos 5 ∷ []) ∷ []))
+    ∷ pool intType 2 (wholeLists ((pos 1 ∷ []) ∷ (pos 2 ∷ []) ∷ [])) (wholes (pos 5 ∷ [])) (wholeLists ((pos 1 ∷ pos 5 ∷ []) ∷ (pos 2 ∷ pos 5 ∷ []) ∷ []))
     ∷ says 19 (pos 1) 1 (wholes (pos 1 ∷ [])) (pos 1) 1 (floatLists ((0 ∷ []) ∷ []))
     ∷ says 19 (pos 1) 1 (floatLists ((0 ∷ []) ∷ [])) (pos 1) 1 (wholes (pos 1 ∷ []))
     -- rows that leave 64 bits, whatever the natures are; an entry count comes before them
