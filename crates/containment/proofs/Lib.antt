@@ -11,6 +11,7 @@ pub mod Lists
 pub mod Natures
 pub mod Nodes
 pub mod Order
+pub mod OwnColumns
 pub mod Passed
 pub mod Products
 pub mod Quotients

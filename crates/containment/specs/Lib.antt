@@ -4,3 +4,4 @@ pub mod Within
 pub mod Asks
 pub mod Good
 pub mod Shown
+pub mod OwnColumns

@@ -1,25 +1,24 @@
 -- 02, S-4: examples of Subtract on ranges under two theorems: single calls from the operands' bytes to the reply and the bytes written, and plans to the reply and every byte of the work
 -- buffer.
-use mathlib.Core.Path.{_≡_, refl}
+use mathlib.Core.Path.{refl}
 use mathlib.Core.Bool.{true}
-use mathlib.Core.List.{List, [], _∷_, _++_}
+use mathlib.Core.List.{List, [], _∷_}
 use mathlib.Core.Option.{none, some}
-use Prim.Native.Nat.{ℕ, _-_, _*_, _^_}
+use Prim.Native.Nat.{ℕ, _-_, _^_}
 use lib.Ieee.{binary64, ofBits}
 use lib.IntN.{ℤ, pos}
-use lib.ListN.{length, take, replicate}
+use lib.ListN.{take}
 use Rattle.numbers.specs.Result.{Result, ok, refused}
 use Rattle.numbers.specs.Kind.{spanOf}
-use Rattle.base.specs.Form.{narrow, longest, intType, floatType}
+use Rattle.base.specs.Form.{narrow, intType, floatType}
 use Rattle.base.specs.Sheet.{Nature, wholeRange, floatRange, wholeLists, Sheet}
 use Rattle.base.specs.Encode.{encode}
-use Rattle.plan_form.specs.Form.{nodeCount, planFails, stepPermitted}
+use Rattle.plan_form.specs.Form.{planFails, stepPermitted}
 use Rattle.step_laws.specs.Computing.{computing}
-use Rattle.step_laws.specs.Examples.{AllHold, sheetWith, Example, example, call, leaves, Holds, filler, slotsOf}
+use Rattle.step_laws.specs.Examples.{AllHold, sheetWith, Example, example, call, leaves, Holds, slotsOf, Plan, HoldsPlan}
 use Rattle.step_laws.specs.Shelf.{range, between, minus}
 use Rattle.step_laws.specs.Pooled.{operand}
 use Rattle.step_laws.specs.Signs.{plusZero, minusZero, large, minusLarge}
-use Rattle.calls.specs.Single.{outcome}
 use Rattle.calls.specs.Walk.{plan, walk, stepOn, sheetIn, leavesThen}
 
 -- ---- the sheets: releasable, of one row
@@ -110,21 +109,6 @@ differences =
     (refl, (refl, (refl, (refl, (refl, (refl, (refl, (refl, (refl, (refl, (refl, (refl, (refl, (refl, (refl, (refl, (refl, (refl, (refl, (refl, tt))))))))))))))))))))
 
 -- ---- plans
-
--- a plan's bytes, its leaves, its steps' sheets as far as it goes, and its reply
-pub record Plan : Type 0 where
-  pub bytes : List ℕ
-  pub handedIn : List Sheet
-  pub steps : List Sheet
-  pub code : ℕ
-  pub value : ℕ
-
--- slots for all nodes of a plan, of which those with these sheets are written
-abbrev pub work : Plan → List Sheet → List ℕ
-work e sheets = slotsOf sheets ++ replicate ((nodeCount (e .bytes) - length sheets) * longest narrow) filler
-
-abbrev pub HoldsPlan : Plan → Type 0
-HoldsPlan e = plan narrow (e .bytes) (work e (e .handedIn)) ≡ outcome (e .code) (e .value) (work e (e .handedIn ++ e .steps))
 
 -- two leaves; node 2 is their difference and node 3 its Abs
 unfoldable pub differenceThenAbs : List ℕ

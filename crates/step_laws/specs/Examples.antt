@@ -1,9 +1,9 @@
--- What the tables of examples are made of: sheets, single calls from bytes to bytes, and slots of a work buffer.
+-- What the tables of examples are made of: sheets, single calls from bytes to bytes, slots of a work buffer, and plans.
 use mathlib.Core.Path.{_≡_}
 use mathlib.Core.Bool.{Bool, false}
 use mathlib.Core.List.{List, [], _∷_, _++_}
 use mathlib.Core.Option.{Option, none, some}
-use Prim.Native.Nat.{ℕ, _-_}
+use Prim.Native.Nat.{ℕ, _-_, _*_}
 use lib.IntN.{ℤ}
 use lib.ListN.{length, replicate}
 use Rattle.bytes.specs.Deliver.{delivered}
@@ -11,7 +11,9 @@ use Rattle.numbers.specs.Result.{Result, ok, refused}
 use Rattle.base.specs.Form.{narrow, longest}
 use Rattle.base.specs.Sheet.{Nature, Sheet}
 use Rattle.base.specs.Encode.{encode, joined}
+use Rattle.plan_form.specs.Form.{nodeCount}
 use Rattle.calls.specs.Single.{Outcome, outcome, single}
+use Rattle.calls.specs.Walk.{plan}
 
 -- every row of a table holds
 unfoldable pub AllHold : {E : Type 0} → (E → Type 0) → List E → Type 0
@@ -81,3 +83,20 @@ slotWith bytes = bytes ++ replicate (longest narrow - length bytes) filler
 
 unfoldable pub slotsOf : List Sheet → List ℕ
 slotsOf sheets = joined (λ s. slotWith (encode narrow s)) sheets
+
+-- ---- a plan
+
+-- a plan's bytes, its leaves, its steps' sheets as far as it goes, and its reply
+pub record Plan : Type 0 where
+  pub bytes : List ℕ
+  pub handedIn : List Sheet
+  pub steps : List Sheet
+  pub code : ℕ
+  pub value : ℕ
+
+-- slots for all nodes of a plan, of which those with these sheets are written
+abbrev pub work : Plan → List Sheet → List ℕ
+work e sheets = slotsOf sheets ++ replicate ((nodeCount (e .bytes) - length sheets) * longest narrow) filler
+
+abbrev pub HoldsPlan : Plan → Type 0
+HoldsPlan e = plan narrow (e .bytes) (work e (e .handedIn)) ≡ outcome (e .code) (e .value) (work e (e .handedIn ++ e .steps))

@@ -6,3 +6,4 @@ pub mod Pooled
 pub mod Texts
 pub mod Signs
 pub mod Differences
+pub mod Counted
