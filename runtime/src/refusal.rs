@@ -62,13 +62,15 @@ pub enum Refusal {
     OutputTooShort = 27,
     /// 28: The result's text exceeds 1,024 bytes after repeats go.
     TooMuchText = 28,
+    /// 29: The number of category lists is neither one nor the output's column count.
+    CategoryListCount = 29,
 }
 
 /// A refusal, its sentence, and what a person can do about it.
 type Row = (Refusal, &'static str, &'static str);
 
 /// By number.
-const TABLE: [Row; 28] = [
+const TABLE: [Row; 29] = [
     (Refusal::MalformedPlan, "The plan is malformed.",
      "The bytes of a plan have another length than its sizes call for, there are no nodes or more than 32, no leaves or more leaves than nodes, a component is not 1 to 10, an operand is not an earlier node, or abs or negative names two different operands. The command `gate cards` writes plans that never meet it."),
     (Refusal::NoSuchComponent, "The component is not 1 to 10.",
@@ -108,7 +110,7 @@ const TABLE: [Row; 28] = [
     (Refusal::FloatCategories, "Float categories are to be combined or mapped.",
      "No component computes with float categories, and pool does not unite them. Use a float range, or whole categories."),
     (Refusal::NoCategoryLists, "A category operand has no lists.",
-     "Write at least one category list."),
+     "Write one category list for all columns, or one for each (29)."),
     (Refusal::CategoryKindsDiffer, "The category kinds differ.",
      "Both operands need categories of one kind."),
     (Refusal::NoCategoryRule, "The component has no rule for this category kind.",
@@ -125,6 +127,8 @@ const TABLE: [Row; 28] = [
      "A single call needs as many bytes as the derived sheet has, at most 2,308. A plan call needs 2,308 bytes of work buffer for each node. The command `gate cards` always lends enough."),
     (Refusal::TooMuchText, "The result's text exceeds 1,024 bytes after repeats go.",
      "Add joins every left text with every right text, and pool takes the texts of both; of equal ones the first stays. The lists count as they would be written: a single list goes with every output column and then counts once for each. Take shorter texts, fewer of them, or fewer columns. It is tested directly after 26."),
+    (Refusal::CategoryListCount, "The number of category lists is neither one nor the output's column count.",
+     "Write one category list for all columns, or one for each. A leaf is not refused with it; the steps that use its lists count them: abs and negative, and add, subtract, multiply, divide, pool and power of type float where both operands have categories. Beside a range or an absent nature no list is counted. The columns are the result's, so that beside three columns a single column may have three lists; the output of power has left's. It is tested directly after 20: left finishes 19, 20 and 29 before right, and 21 follows."),
 ];
 
 impl Refusal {
@@ -132,7 +136,7 @@ impl Refusal {
     ///
     /// ```
     /// use gate_runtime::Refusal;
-    /// assert_eq!(Refusal::all().count(), 28);
+    /// assert_eq!(Refusal::all().count(), 29);
     /// ```
     pub fn all() -> impl Iterator<Item = Refusal> {
         TABLE.iter().map(|row| row.0)
@@ -195,11 +199,19 @@ mod tests {
             assert_eq!(Refusal::from_code(refusal.code()), Some(refusal));
             assert!(refusal.sentence().ends_with('.') && refusal.explain().ends_with('.'));
         }
-        assert_eq!(Refusal::from_code(29), None);
+        assert_eq!(Refusal::from_code(30), None);
         // Texts name the limits in figures.
         assert_eq!((NARROW.longest(), NARROW.text), (2308, 1024));
         assert!(Refusal::SheetSize.explain().contains("2,308") && Refusal::OutputTooShort.explain().contains("2,308"));
         assert!(Refusal::SheetSize.explain().contains("1,024") && Refusal::TooMuchText.sentence().contains("1,024"));
+    }
+
+    /// Its place is not that of its number.
+    #[test]
+    fn the_place_of_29_in_the_order_is_said() {
+        let text = Refusal::CategoryListCount.explain();
+        assert!(text.contains("directly after 20: left finishes 19, 20 and 29 before right, and 21 follows"), "{text}");
+        assert!(Refusal::NoCategoryLists.explain().contains("(29)"));
     }
 
     /// No component puts a lower end above its upper.

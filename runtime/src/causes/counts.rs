@@ -1,7 +1,7 @@
-//! Causes of 26 and 28: how many categories, and how many bytes of text, the result would hold.
+//! Causes that count: 18 and 29, the ranges or lists beside the columns; 26 and 28, the categories or the bytes of text that the result would hold.
 
 use super::arithmetic::wholes;
-use super::Pair;
+use super::{Named, Pair};
 use crate::component::Component;
 use crate::form::NARROW;
 use crate::nature::Nature;
@@ -9,13 +9,45 @@ use std::collections::HashSet;
 use std::hash::Hash;
 
 impl Pair<'_> {
-    /// The two lists of each column of the result: a single list goes with every column, and pairing stops at the shorter side.
-    pub(super) fn lists_that_meet<'a, T>(&self, left: &'a [Vec<T>], right: &'a [Vec<T>]) -> Vec<(&'a [T], &'a [T])> {
+    /// Operands with neither one range or list for all columns of the output nor one for each.
+    fn uneven(&self) -> Vec<&Named<'_>> {
         let columns = self.columns();
-        let spread = |lists: usize| if lists == 1 { columns } else { lists };
-        let count = spread(left.len()).min(spread(right.len()));
-        let pick = |lists: &'a [Vec<T>], column: usize| &lists[if lists.len() == 1 { 0 } else { column }][..];
-        (0..count).map(|column| (pick(left, column), pick(right, column))).collect()
+        let spreads = |lists: usize| lists == 1 || lists == columns;
+        self.sides().into_iter().filter(|side| !spreads(side.sheet.nature.lists())).collect()
+    }
+
+    /// 18, of every operand that meets it.
+    pub(super) fn range_counts(&self) -> Vec<String> {
+        let output = counted(self.columns(), "column");
+        let text = |side: &Named| format!("{}: {} ranges, while the output has {output}", side.label, side.sheet.nature.lists());
+        self.uneven().into_iter().map(text).collect()
+    }
+
+    /// 29, of the first operand that meets it. Beside a range or an absent nature no list is counted.
+    pub(super) fn list_counts(&self) -> Vec<String> {
+        if !self.sides().iter().all(|side| side.sheet.nature.is_categories()) {
+            return Vec::new();
+        }
+        self.uneven().first().map(|side| self.list_count(side)).into_iter().collect()
+    }
+
+    /// How many lists there are, and how many are wanted. Where the operand itself has another column count, that is named too, and whose columns the output has.
+    fn list_count(&self, side: &Named) -> String {
+        let columns = self.columns();
+        let (lists, output) = (counted(side.sheet.nature.lists(), "category list"), counted(columns, "column"));
+        let wanted = if columns == 1 { "one list is wanted" } else { "one list is wanted, or one for each column" };
+        if side.sheet.columns == Some(columns as i64) {
+            return format!("{}: {lists}, while the output has {output}: {wanted}", side.label);
+        }
+        let own = side.sheet.columns.map_or("with columns absent".to_string(), |own| format!("over {}", counted(own as usize, "column")));
+        let other = if std::ptr::eq(side, self.left) { self.right } else { self.left };
+        format!("{}: {lists} {own}, while the output has {output}, as {} has: {wanted}", side.label, other.label)
+    }
+
+    /// The two lists of each column of the result: its own, or the only one. 29 has passed, so that both operands have one for every column.
+    pub(super) fn lists_that_meet<'a, T>(&self, left: &'a [Vec<T>], right: &'a [Vec<T>]) -> Vec<(&'a [T], &'a [T])> {
+        let pick = |lists: &'a [Vec<T>], column: usize| lists.get(if lists.len() == 1 { 0 } else { column });
+        (0..self.columns()).filter_map(|column| Some((&pick(left, column)?[..], &pick(right, column)?[..]))).collect()
     }
 
     /// 26: how many would be written, list by list.
@@ -48,6 +80,15 @@ impl Pair<'_> {
         };
         let lists = self.lists_that_meet(left, right).into_iter();
         lists.map(|(left, right)| text_results(self.component, left, right).into_iter().collect()).collect()
+    }
+}
+
+/// "1 column", "3 columns".
+fn counted(count: usize, what: &str) -> String {
+    if count == 1 {
+        format!("1 {what}")
+    } else {
+        format!("{count} {what}s")
     }
 }
 

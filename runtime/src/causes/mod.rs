@@ -227,9 +227,10 @@ impl Pair<'_> {
             Refusal::BoundsUnsuited => self.unsuited(),
             Refusal::BoundsCondition => self.conditions(),
             Refusal::MixedRanges => vec![self.both("ranges", described)],
-            Refusal::BoundListCount => self.list_counts(),
+            Refusal::BoundListCount => self.range_counts(),
             Refusal::FloatCategories => self.side_where(|s| matches!(s.nature, Nature::FloatCategories(_))),
             Refusal::NoCategoryLists => self.side_where(|s| s.nature.lists() == 0),
+            Refusal::CategoryListCount => self.list_counts(),
             Refusal::CategoryKindsDiffer => {
                 vec![self.both("natures", |s| s.nature.name().to_string())]
             }
@@ -310,17 +311,6 @@ impl Pair<'_> {
         own(self.left).max(own(self.right))
     }
 
-    fn list_counts(&self) -> Vec<String> {
-        let columns = self.columns();
-        let fits = |lists: usize| lists == 1 || lists == columns;
-        self.sides()
-            .iter()
-            .map(|side| (side.label, side.sheet.nature.lists()))
-            .filter(|(_, lists)| !fits(*lists))
-            .map(|(label, lists)| format!("{label}: {lists} ranges, while the output has {}", counted(columns, "column")))
-            .collect()
-    }
-
     /// 19 and 20, of the first operand that meets it.
     fn side_where(&self, test: fn(&Sheet) -> bool) -> Vec<String> {
         let met = self.sides().into_iter().find(|side| test(side.sheet));
@@ -332,15 +322,6 @@ impl Pair<'_> {
         let of_float = self.component == Component::Power && self.left.sheet.data_type == DataType::Float;
         let of = if of_float { " of type float" } else { "" };
         format!("{}: {}: {}{of} has no rule for {kind}", self.left.label, described(self.left.sheet), self.component)
-    }
-}
-
-/// "1 column", "3 columns".
-fn counted(count: usize, what: &str) -> String {
-    if count == 1 {
-        format!("1 {what}")
-    } else {
-        format!("{count} {what}s")
     }
 }
 

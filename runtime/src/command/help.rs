@@ -47,7 +47,7 @@ Exit codes: 0 all accepted, 1 one refused, 2 wrong use or a malformed file.
 
 pub(super) const EXPLAIN: &str = "usage: gate explain [NUMBER]
 
-Says what a refusal's number (1 to 28) means and what can be done about it.
+Says what a refusal's number (1 to 29) means and what can be done about it.
 Without a number it lists all of them.
 ";
 
@@ -65,7 +65,8 @@ leaf NAME : TYPE, ITEM, ...       TYPE is int, float, bool, str or unknown
   whole [LOW, HIGH] [LOW, HIGH]   one range for each column
   float [LOW, HIGH]               a range of floats; likewise by column
                                   (.. or -inf, +inf: the end sets no bound)
-  whole {1, 2, 3}                 categories; likewise float {..}, bool {..}
+  whole {1, 2, 3}                 categories: one list for all columns, or one
+                                  for each; likewise float {..}, bool {..}
   text {\"north\", \"south\"}         categories of text, 1,024 bytes in all lists;
                                   escapes are \\\" \\\\ \\n \\t, \\xHH for one byte,
                                   \\u{H..} for a character by its number

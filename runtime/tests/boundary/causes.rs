@@ -21,7 +21,12 @@ fn refused(component: u32, left: &[u8], right: &[u8], out_len: usize) -> Option<
         24 => assert!(text.contains("leaves 64 signed bits") || text.contains("divides by zero"), "{text}"),
         26 => exceeds(&text, 128),
         28 => exceeds(&text, 1024),
+        29 => assert!(text.contains("category list") && text.contains("one list is wanted"), "{text}"),
         _ => {}
+    }
+    // 29 is tested before these, so that operands which meet them do not meet it.
+    if let 21..=24 | 26..=28 = refusal.code() {
+        assert_eq!(causes::of_single(Refusal::CategoryListCount, &call), [NO_CAUSE], "{refusal}: {left:?}, {right:?}");
     }
     Some(refusal.code())
 }
@@ -32,7 +37,7 @@ fn exceeds(cause: &str, limit: usize) {
     assert!(count.parse::<usize>().is_ok_and(|count| count > limit) && rest.contains(&format!("at most {limit}")), "{cause}");
 }
 
-/// No arithmetic cause is found in operands that the proved call accepts.
+/// No arithmetic cause, and no count of lists, is found in operands that the proved call accepts.
 fn accepted_has_no_cause(component: u32, left: &[u8], right: &[u8]) {
     let call = Call { component, left, right, out_len: SLOT, names: ["a", "b"] };
     let none = |refusal| assert_eq!(causes::of_single(refusal, &call), [NO_CAUSE], "{refusal}: {left:?}, {right:?}");
@@ -40,6 +45,7 @@ fn accepted_has_no_cause(component: u32, left: &[u8], right: &[u8]) {
     none(Refusal::FieldValue);
     none(Refusal::BadBound);
     none(Refusal::Aggregated);
+    none(Refusal::CategoryListCount);
     match component {
         1..=4 | 9 | POOL => none(Refusal::WholeOverflow),
         5 => [Refusal::WholeOverflow, Refusal::DivideMayMeetZero].into_iter().for_each(none),
@@ -69,9 +75,9 @@ fn generated_calls_have_causes() {
             }
         }
     }
-    let wanted: BTreeSet<u32> = (5..=28).filter(|number| *number != 25).collect();
+    let wanted: BTreeSet<u32> = (5..=29).filter(|number| *number != 25).collect();
     assert_eq!(seen, wanted);
-    assert_eq!(of_pool, BTreeSet::from([5, 6, 7, 8, 11, 12, 14, 17, 18, 19, 20, 21, 24, 26, 27, 28]));
+    assert_eq!(of_pool, BTreeSet::from([5, 6, 7, 8, 11, 12, 14, 17, 18, 19, 20, 21, 24, 26, 27, 28, 29]));
     assert!(accepted > 5_000, "{accepted} calls were accepted");
 }
 

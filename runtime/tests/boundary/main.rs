@@ -3,6 +3,7 @@
 mod canaries;
 mod causes;
 mod differences;
+mod lists;
 mod made;
 mod refusals;
 mod round_trips;

@@ -173,6 +173,53 @@ fn natures() -> Vec<Case> {
     ]
 }
 
+/// 29 by operand, kind and component, each before what else its operands meet.
+fn uneven_lists() -> Vec<Case> {
+    let two = || listed(&[&[1], &[2]]);
+    let bools = |lists: usize| plain(DataType::Int, Nature::BoolCategories(vec![vec![true]; lists])).with_columns(3);
+    let floats = plain(DataType::Int, Nature::FloatCategories(vec![vec![0.5]]));
+    let least = listed(&[&[i64::MIN], &[1]]).with_columns(3);
+    let (two_of_three, one_of_three) = (|| two().with_columns(3), || listed(&[&[5]]).with_columns(3));
+    let left = "left: 2 category lists, while the output has 3 columns: one list is wanted, or one for each column";
+    let right = "right: 2 category lists, while the output has 3 columns: one list is wanted, or one for each column";
+    let operand = "operand: 2 category lists, while the output has 3 columns: one list is wanted, or one for each column";
+    let single = "2 category lists, while the output has 1 column: one list is wanted";
+    vec![
+        case(29, ADD, two_of_three(), one_of_three(), left),
+        case(29, ADD, one_of_three(), two_of_three(), right),
+        case(29, ADD, two_of_three(), bools(1), left),
+        case(29, ADD, bools(1), two_of_three(), right),
+        case(29, MULTIPLY, bools(2), bools(1), left),
+        case(29, SUBTRACT, two().with_columns(4), floats.with_columns(4), "left: 2 category lists, while the output has 4 columns"),
+        case(29, DIVIDE, two_of_three(), listed(&[]).with_columns(3), left),
+        case(29, ADD, two().with_columns(1), two().with_columns(1), single),
+        case(29, NEGATIVE, two().with_columns(1), one(), single),
+        case(29, NEGATIVE, least, one(), operand),
+        case(29, ABS, two_of_three(), one(), operand),
+        case(29, ABS, listed(&[&[4], &[5], &[6]]).with_columns(2), one(), "operand: 3 category lists, while the output has 2 columns"),
+        case(29, ADD, texts(&[&["a"], &["b"]]).with_columns(3), texts(&[&["c"]]).with_columns(3), left),
+        case(29, POOL, two_of_three().with_rows(i64::MAX), one_of_three(), left),
+        case(29, POOL, texts(&[&["a"]]).with_columns(3), texts(&[&["a"], &["b"]]).with_columns(3), right),
+    ]
+}
+
+/// 29 of an operand that has other columns than the output.
+fn uneven_beside_another() -> Vec<Case> {
+    let float = |sheet| but(sheet, |s: &mut Sheet| s.data_type = DataType::Float);
+    let two = || listed(&[&[1], &[2]]);
+    let three_of_one = listed(&[&[10], &[20], &[30]]).with_columns(1);
+    let no_columns = but(float(two()), |s| s.columns = None);
+    let wide =
+        "right: 3 category lists over 1 column, while the output has 2 columns, as left has: one list is wanted, or one for each column";
+    let narrow = "right: 2 category lists over 2 columns, while the output has 1 column, as left has: one list is wanted";
+    let unknown = "right: 2 category lists with columns absent, while the output has 1 column, as left has: one list is wanted";
+    vec![
+        case(29, ADD, two(), three_of_one, wide),
+        case(29, POWER, float(listed(&[&[1]])), float(two()), narrow),
+        case(29, POWER, float(listed(&[&[1]])), no_columns, unknown),
+    ]
+}
+
 fn arithmetic() -> Vec<Case> {
     let many: Vec<i64> = (0..100).collect();
     let thirty: Vec<i64> = (0..30).collect();
@@ -278,8 +325,9 @@ fn pooled() -> Vec<Case> {
 }
 
 pub fn cases() -> Vec<Case> {
-    let groups = [sizes_and_fields(), bounds_and_marks(), shapes_and_types(), bounds_read(), natures(), arithmetic(), labelled(), pooled()];
-    groups.into_iter().flatten().collect()
+    let first = [sizes_and_fields(), bounds_and_marks(), shapes_and_types(), bounds_read()];
+    let behind = [natures(), uneven_lists(), uneven_beside_another(), arithmetic(), labelled(), pooled()];
+    first.into_iter().chain(behind).flatten().collect()
 }
 
 #[test]
@@ -300,7 +348,7 @@ fn every_single_call_case_has_its_number_and_cause() {
 #[test]
 fn every_number_but_25_is_reached_and_25_says_why_not() {
     let reached: BTreeSet<u32> = cases().iter().map(|case| case.number).chain([1]).collect();
-    let all: BTreeSet<u32> = (1..=28).filter(|number| *number != 25).collect();
+    let all: BTreeSet<u32> = Refusal::all().map(Refusal::code).filter(|number| *number != 25).collect();
     assert_eq!(reached, all);
     let text = Refusal::PowerCategoryOverflow.explain();
     assert!(text.contains("No call can meet it") && text.contains("(15)") && text.contains("(22)"));

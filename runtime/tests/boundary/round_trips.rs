@@ -82,7 +82,7 @@ fn negative_twice_gives_the_range_back() {
 #[test]
 fn damaged_sheets_are_read_as_the_proved_call_reads_them() {
     let mut draws = Draws::new(9);
-    let mut counts = [0; 29];
+    let mut counts = [0; 6];
     for _ in 0..60_000 {
         let mut bytes = sheet(&mut draws).encode();
         for _ in 0..draws.below(3) {

@@ -82,7 +82,8 @@ fn lists_go_with_columns_as_those_of_other_kinds_do() {
     assert_eq!(derived(Component::Add, &one, &two).unwrap().1, r#"{"xa"} {"xb", "xc"}"#);
     assert_eq!(derived(Component::Pool, &two, &two.clone()).unwrap().1, r#"{"a"} {"b", "c"}"#);
     let three = texts(&[&["x"], &["y"], &["z"]]).with_columns(2);
-    assert_eq!(derived(Component::Add, &two, &three).unwrap().1, r#"{"ax"} {"by", "cy"}"#);
+    assert_eq!(derived(Component::Add, &two, &three), Err(Refusal::CategoryListCount));
+    assert_eq!(derived(Component::Pool, &three, &two), Err(Refusal::CategoryListCount));
 }
 
 #[test]

@@ -174,6 +174,7 @@ fn drawn_plans_never_panic() {
         "whole [1, 5]",
         "whole [-3, 2] [4, ..]",
         "whole {1, 2, 0}",
+        "whole {1} {2, 3}",
         "float [-0.5, 2]",
         "float {0.5}",
         "bool {true}",

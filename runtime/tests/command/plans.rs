@@ -282,6 +282,48 @@ fn an_end_that_overflows_is_named() {
     assert!(text.contains("[-inf, +1.0]"), "{text}");
 }
 
+/// Leaves of three columns with two lists, with one for all, with one for each, and with a range.
+fn counted(steps: &str) -> (u8, String) {
+    let rest = "columns 3, rows 1, releasable\n";
+    let leaves = format!(
+        "leaf two : int, whole {{1}} {{2}}, {rest}leaf one : int, whole {{5}}, {rest}\
+         leaf three : int, whole {{1}} {{2}} {{3}}, {rest}leaf range : int, whole [1, 2], {rest}"
+    );
+    let card = Card::of("f", format!("{leaves}{steps}").as_bytes());
+    (card.exit_code(), card.render().0)
+}
+
+/// The refusal names the step, its cause the leaf whose lists do not go with the columns.
+#[test]
+fn lists_that_do_not_go_with_the_columns_are_named() {
+    let cause = "2 category lists, while the output has 3 columns: one list is wanted, or one for each column";
+    for (step, role) in [
+        ("s = abs two", "operand"),
+        ("s = negative two", "operand"),
+        ("s = add two one", "left"),
+        ("s = multiply one two", "right"),
+        ("s = pool three two", "right"),
+        ("s = divide two two", "left"),
+    ] {
+        let (code, text) = counted(step);
+        assert_eq!(code, 1, "{text}");
+        assert!(text.contains("refused with 29") && text.contains(&format!("Refused: node 4 `s` = {} (line 5)", &step[4..])), "{text}");
+        assert!(text.contains(&format!("\n  {role} `two`: {cause}\n  More: gate explain 29\n")), "{text}");
+    }
+}
+
+/// Lists that no step uses are not counted, and nothing is said of them.
+#[test]
+fn lists_beside_a_range_are_not_counted() {
+    for steps in ["", "s = add two range", "s = pool range two", "s = add one three\nt = abs three\nu = divide range two"] {
+        let (code, text) = counted(steps);
+        assert_eq!(code, 0, "{text}");
+        assert!(!text.contains("29") && !text.contains("Note") && text.contains("1: {+1}"), "{text}");
+    }
+    let (code, text) = counted("s = add two range\nt = negative two");
+    assert!(code == 1 && text.contains("not stated") && text.contains("Refused: node 5 `t` = negative two (line 6)"), "{text}");
+}
+
 #[test]
 fn caret_lines_point_at_the_place() {
     let problems = text::read("leaf 冰場 : int\n\tb = ab 冰場").unwrap_err();

@@ -14,7 +14,7 @@ fn wrong_use_is_2_and_says_where_help_is() {
         (&["cards", "--svg"], "--svg needs a file to write"),
         (&["cards", "--svg", "x.svg", "a", "b"], "--svg draws one plan"),
         (&["explain", "0"], "no refusal `0`"),
-        (&["explain", "29"], "no refusal `29`, they are 1 to 28"),
+        (&["explain", "30"], "no refusal `30`, they are 1 to 29"),
         (&["explain", "x"], "no refusal `x`"),
         (&["explain", "1", "2"], "explain takes one number"),
         (&["help", "frob"], "no help on `frob`"),
@@ -66,8 +66,9 @@ fn the_format_help_shows_a_plan_and_every_item() {
 #[test]
 fn every_number_is_explained() {
     let all = gate(&["explain"]);
-    assert_eq!((all.code, all.out.lines().count()), (Some(0), 28));
-    for (number, line) in (1..=28).zip(all.out.lines()) {
+    assert_eq!((all.code, all.out.lines().count()), (Some(0), 29));
+    assert!(gate(&["help", "explain"]).out.contains("(1 to 29)"));
+    for (number, line) in (1..=29).zip(all.out.lines()) {
         let one = gate(&["explain", &number.to_string()]);
         assert_eq!(one.code, Some(0));
         let sentence = line.trim_start().split_once("  ").expect("a number and a sentence").1;
