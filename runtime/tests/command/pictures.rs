@@ -61,6 +61,22 @@ fn json_and_picture_tell_an_infinite_end_from_an_absent_one() {
 }
 
 #[test]
+fn json_and_picture_show_lists_that_do_not_go_with_the_columns() {
+    let card = card("third_pump");
+    let document = json_reader::read(&json::document(std::slice::from_ref(&card)).write()).unwrap();
+    let plan = &document.at("plans").list()[0];
+    let speed = plan.at("nodes").list()[0].at("sheet").clone();
+    assert_eq!((speed.at("categories").list().len(), speed.at("columns").number()), (2, "3"));
+    let refusal = plan.at("refusal");
+    assert_eq!((refusal.at("number").number(), refusal.at("name").text()), ("29", "setting"));
+    assert_eq!(refusal.at("sentence").text(), "The number of category lists is neither one nor the output's column count.");
+    let causes: Vec<&str> = refusal.at("causes").list().iter().map(|cause| cause.text()).collect();
+    assert_eq!(causes, ["left `speed`: 2 category lists, while the output has 3 columns: one list is wanted, or one for each column"]);
+    let texts = picture(&card);
+    assert!(texts.contains(&"2: {+0, +1}".to_string()) && texts.contains(&"all: {+0, +1}".to_string()), "{texts:?}");
+}
+
+#[test]
 fn json_and_picture_show_pool_by_its_word() {
     let card = card("twin_plants");
     let document = json_reader::read(&json::document(std::slice::from_ref(&card)).write()).unwrap();
