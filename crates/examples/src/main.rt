@@ -1,4 +1,4 @@
-// Document 01's shelf examples and traps, and Pool and Subtract of ranges of document 02: sheets are built, the gate derives, and what its output says is written with both signs.
+// Document 01's shelf examples and traps, and Pool, Subtract of ranges and counted category lists of document 02: sheets are built, the gate derives, and what its output says is written with both signs.
 mod sheet; // operands
 mod show; // what bytes say
 
@@ -204,7 +204,7 @@ fn pooled() {
         1,
     );
     with_categories(Component::POOL, 11, 2, 1, 1);
-    with_categories(Component::POOL, 1, 2, 2, 3);
+    with_categories(Component::POOL, 1, 2, 2, 2);
 }
 
 // Each end crosses: it is absent if one of its own two is, and leaves 64 bits by itself.
@@ -230,6 +230,13 @@ fn differences() {
     );
 }
 
+// One list, or one for each column.
+fn counted() {
+    with_categories(Component::ADD, 1, 2, 2, 2);
+    with_categories(Component::ADD, 1, 2, 2, 1);
+    with_categories(Component::POOL, 1, 2, 2, 3);
+}
+
 fn main() {
     io::write_all(STDOUT_FILENO, b"Starred\n");
     starred();
@@ -247,4 +254,6 @@ fn main() {
     pooled();
     io::write_all(STDOUT_FILENO, b"Subtract of ranges\n");
     differences();
+    io::write_all(STDOUT_FILENO, b"Category lists\n");
+    counted();
 }
