@@ -1,5 +1,7 @@
 //! The documents' worked examples and traps, answered by the proved library: the port's tests with another answering.
 
+#[path = "../../port/tests/examples/counted.rs"]
+mod counted;
 #[path = "../../port/tests/examples/made.rs"]
 mod made;
 #[path = "../../port/tests/examples/pool.rs"]
@@ -12,6 +14,8 @@ mod sign;
 mod subtract;
 #[path = "../../port/tests/examples/text.rs"]
 mod text;
+#[path = "../../port/tests/examples/walked.rs"]
+mod walked;
 
 /// Who answers.
 mod answering {

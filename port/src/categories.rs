@@ -143,8 +143,7 @@ impl<'a, T: Value<'a>> Store<T> {
     }
 
     /// Appends, column by column, what `append` makes of the two lists that meet
-    /// there: one list goes with every column, other counts stay, and the shorter
-    /// count ends it.
+    /// there: the column's own, or the only one. 29 has let no other count pass.
     fn push_columns(
         &mut self,
         left: &Sheet<'a>,
@@ -158,9 +157,9 @@ impl<'a, T: Value<'a>> Store<T> {
             self.repeat_first(columns);
             return Ok(());
         }
-        self.lists = spread(left.lists, columns).min(spread(right.lists, columns));
+        self.lists = columns;
         let entry = |sheet: &Sheet, column: usize| if sheet.lists == 1 { 0 } else { column };
-        for column in 0..self.lists {
+        for column in 0..columns {
             let left_list = List::read(left, entry(left, column));
             let right_list = List::read(right, entry(right, column));
             append(self, column, &left_list, &right_list)?;
@@ -224,39 +223,34 @@ fn combine(component: u32, left: i64, right: i64) -> Option<i64> {
     }
 }
 
-/// 19 and 20 of one operand.
-fn standard(sheet: &Sheet) -> Result<(), Refusal> {
+/// 19, 20 and 29 of one operand. 29 goes by the output's columns, whatever the
+/// operand's own.
+fn standard(sheet: &Sheet, columns: usize) -> Result<(), Refusal> {
     if sheet.nature == FLOAT_LISTS {
         return Err(19);
     }
     if sheet.lists == 0 {
         return Err(20);
     }
+    if !sheet.spreads(columns) {
+        return Err(29);
+    }
     Ok(())
 }
 
-/// 19 and 20 of left, then of right, then 21.
-fn alike(left: &Sheet, right: &Sheet) -> Result<(), Refusal> {
-    standard(left)?;
-    standard(right)?;
+/// 19, 20 and 29 of left, then of right, then 21.
+fn alike(left: &Sheet, right: &Sheet, columns: usize) -> Result<(), Refusal> {
+    standard(left, columns)?;
+    standard(right, columns)?;
     if left.nature != right.nature {
         return Err(21);
     }
     Ok(())
 }
 
-/// One list repeats per output column, other counts stay.
-fn spread(lists: usize, columns: usize) -> usize {
-    if lists == 1 {
-        columns
-    } else {
-        lists
-    }
-}
-
 /// Abs and Negative: repeats are dropped before the mapping and kept after it.
 pub fn unary(component: u32, left: &Sheet, columns: usize) -> Result<Store<i64>, Refusal> {
-    standard(left)?;
+    standard(left, columns)?;
     if left.nature != WHOLE_LISTS {
         return Err(22);
     }
@@ -271,9 +265,14 @@ pub fn unary(component: u32, left: &Sheet, columns: usize) -> Result<Store<i64>,
     store.finish()
 }
 
-/// 19 to 22 of two category operands that are not pooled.
-pub fn have_rule(component: u32, left: &Sheet, right: &Sheet) -> Result<(), Refusal> {
-    alike(left, right)?;
+/// 19, 20, 29, 21 and 22 of two category operands that are not pooled.
+pub fn have_rule(
+    component: u32,
+    left: &Sheet,
+    right: &Sheet,
+    columns: usize,
+) -> Result<(), Refusal> {
+    alike(left, right, columns)?;
     let rule = match left.nature {
         // Only Float Power comes here of 6 to 8, and it has no rule.
         WHOLE_LISTS => component != POWER,
@@ -318,14 +317,14 @@ fn product<'a, T: Value<'a>>(
     store.finish()
 }
 
-/// Pool: 19 to 21. The lists may still be too long, since the rows' 24 comes
+/// Pool: 19, 20, 29 and 21. The lists may still be too long, since the rows' 24 comes
 /// before 26: the caller finishes them.
 pub fn pooled<'a, T: Value<'a>>(
     left: &Sheet<'a>,
     right: &Sheet<'a>,
     columns: usize,
 ) -> Result<Store<T>, Refusal> {
-    alike(left, right)?;
+    alike(left, right, columns)?;
     let mut store = Store::new(left.nature);
     store.push_columns(left, right, columns, |store, column, left, right| {
         store.push_union(column, left, right);

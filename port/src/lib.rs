@@ -1,5 +1,5 @@
-//! The two calls of document 01, with document 02's S-1, S-2 and S-4, in plain
-//! safe Rust on the bytes.
+//! The two calls of document 01, with document 02's S-1, S-2, S-4 and S-5, in
+//! plain safe Rust on the bytes.
 //!
 //! It shares no code with the proved crates or the oracle, so that each can be
 //! held against the other two.

@@ -233,6 +233,11 @@ impl<'a> Sheet<'a> {
         &self.values[WORD * start..WORD * end]
     }
 
+    /// Whether there is one entry or list, or one for each of the output's columns.
+    pub fn spreads(&self, columns: usize) -> bool {
+        self.lists == 1 || self.lists == columns
+    }
+
     pub fn has_range(&self) -> bool {
         is_range(self.nature)
     }

@@ -72,7 +72,7 @@ fn binary(
     };
     if left.has_lists() && right.has_lists() {
         let columns = fields.columns as usize;
-        categories::have_rule(component, &left, &right)?;
+        categories::have_rule(component, &left, &right, columns)?;
         if left.nature == TEXT_LISTS {
             let store = categories::joined(&left, &right, columns)?;
             return finish(&Nature::Texts(&store), out);
@@ -87,7 +87,7 @@ fn binary(
     finish(&Nature::Range(&entries), out)
 }
 
-/// Pool: the rows' 24 comes behind 17 to 21 and before 26, under every nature.
+/// Pool: the rows' 24 comes behind 17 to 21 and 29, and before 26, under every nature.
 fn pool(node: u32, left: &[u8], right: &[u8], out: &mut [u8]) -> Result<usize, Refusal> {
     let left = Sheet::read(left)?;
     let right = Sheet::read(right)?;
@@ -157,8 +157,7 @@ fn ranges(
 
 /// 18: one entry, or one per output column.
 fn fits_columns(sheet: &Sheet, columns: usize) -> Result<(), Refusal> {
-    let fits = sheet.lists == columns || sheet.lists == 1;
-    fits.then_some(()).ok_or(18)
+    sheet.spreads(columns).then_some(()).ok_or(18)
 }
 
 /// A column's entry: its own, or the only one.

@@ -1,11 +1,13 @@
 //! Worked examples and traps, on sheets laid out by hand. `compare/tests/examples.rs` puts the proved library in the port's place.
 
+mod counted;
 mod made;
 mod pool;
 mod shelf;
 mod sign;
 mod subtract;
 mod text;
+mod walked;
 
 /// Who answers.
 mod answering {

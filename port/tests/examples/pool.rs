@@ -96,9 +96,11 @@ fn categories_are_united() {
     assert_eq!(pool(&list(&[1]), &bools(&[1])), Err(21));
     assert_eq!(pool(&lists(3, 1, &[]), &bools(&[1])), Err(20));
     assert_eq!(pool(&list(&[1]), &lists(4, 1, &[])), Err(20));
+    let two = |columns| lists(3, columns, &[&[1], &[2]]);
+    assert_eq!(pool(&two(3), &lists(3, 3, &[&[5]])), Err(29));
     assert_eq!(
-        pool(&lists(3, 3, &[&[1], &[2]]), &lists(3, 3, &[&[5]])),
-        Ok(pooled(lists(3, 3, &[&[1, 5], &[2, 5]])))
+        pool(&two(2), &lists(3, 2, &[&[5]])),
+        Ok(pooled(lists(3, 2, &[&[1, 5], &[2, 5]])))
     );
     assert_eq!(
         pool(&lists(3, 2, &[&[1]]), &lists(3, 2, &[&[2, 1]])),
@@ -106,7 +108,7 @@ fn categories_are_united() {
     );
 }
 
-/// The rows' sum is tested under every nature, behind 17 to 21 and before 26.
+/// The rows' sum is tested under every nature, behind 17 to 21 and 29, and before 26.
 #[test]
 fn rows_are_the_sum() {
     let most = i64::MAX;

@@ -1,7 +1,8 @@
 //! Subtract of ranges (document 02, S-4): left lower - right upper, left upper - right lower, each absent if one of its two is.
 
-use crate::answering::{propagate_properties, propagate_property};
+use crate::answering::propagate_property;
 use crate::made::*;
+use crate::walked::{slot, walked, FILLER};
 use plain_port::check_sheet;
 
 const ABS: u32 = 1;
@@ -306,23 +307,6 @@ fn all_else_is_as_in_add() {
     assert_eq!((reply, out), ((27, 0), [0x77; 97]));
     let reply = propagate_property(SUBTRACT, 5, &w(0, 0), &w(LEAST, 0), &mut []);
     assert_eq!(reply, (24, 0));
-}
-
-const FILLER: u8 = 0xee;
-
-/// The reply of a plan, and its slots afterwards.
-fn walked(leaves: &[Vec<u8>], steps: &[(u32, u32, u32)]) -> ((u32, u32), Vec<Vec<u8>>) {
-    let mut work: Vec<u8> = leaves.iter().flat_map(|leaf| slot(leaf)).collect();
-    work.resize(SLOT * (leaves.len() + steps.len()), FILLER);
-    let reply = propagate_properties(&plan(leaves.len() as u16, steps), &mut work);
-    (reply, work.chunks(SLOT).map(<[u8]>::to_vec).collect())
-}
-
-/// A slot that holds a sheet, and filler behind it.
-fn slot(sheet: &[u8]) -> Vec<u8> {
-    let mut slot = sheet.to_vec();
-    slot.resize(SLOT, FILLER);
-    slot
 }
 
 /// A sheet with another node, in its slot.

@@ -360,19 +360,21 @@ fn no_utf_8_is_asked_for() {
     );
 }
 
-/// Each column has its lists, and pairing stops at the shorter count.
+/// Each column has its list, and two lists go with no third column.
 #[test]
 fn lists_meet_column_by_column() {
-    let left = texts(3, &[&[b"a", b"b"], &[b"", b"c"]]);
-    let right = texts(3, &[&[b"x"]]);
+    let left = |columns| texts(columns, &[&[b"a", b"b"], &[b"", b"c"]]);
+    let right = |columns| texts(columns, &[&[b"x"]]);
     assert_eq!(
-        add(&left, &right),
-        Ok(added(texts(3, &[&[b"ax", b"bx"], &[b"x", b"cx"]])))
+        add(&left(2), &right(2)),
+        Ok(added(texts(2, &[&[b"ax", b"bx"], &[b"x", b"cx"]])))
     );
     assert_eq!(
-        pool(&left, &right),
-        Ok(pooled(texts(3, &[&[b"a", b"b", b"x"], &[b"", b"c", b"x"]])))
+        pool(&left(2), &right(2)),
+        Ok(pooled(texts(2, &[&[b"a", b"b", b"x"], &[b"", b"c", b"x"]])))
     );
+    assert_eq!(add(&left(3), &right(3)), Err(29));
+    assert_eq!(pool(&left(3), &right(3)), Err(29));
 }
 
 #[test]
