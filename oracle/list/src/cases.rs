@@ -73,6 +73,7 @@ pub fn all() -> Vec<Case> {
         MARKS,
         ENDS,
         CATEGORIES,
+        COUNTED,
         SIX_TO_EIGHT,
         FIELDS,
         AREA,
@@ -118,8 +119,8 @@ pub fn differences() -> Vec<Case> {
     cases
 }
 
-/// Document 01's worked examples alone, without that of Subtract, which document
-/// 02 gives another answer.
+/// Document 01's worked examples alone, without that of Subtract and the trap of
+/// short category lists, which document 02 gives other answers.
 pub fn shelf() -> Vec<Case> {
     SHELF.iter().map(Case::new).collect()
 }
@@ -146,7 +147,6 @@ const SHELF: &[Row] = &[
     ("16 columns pass in Add", 2, "W[1,2] columns=16", "W[10,20]", "W[11,22]*16 columns=16"),
     ("17 columns give 4 in Add", 2, "W[1,2]", "W[10,20] @40=17", "4"),
     ("Modulo keeps left's node", 6, "W[1,2] node=77", "W[3,8]", "W[0,7] node=77"),
-    ("short category lists are not padded", 2, "W{1}{2} columns=3", "W{5} columns=3", "W{6}{7} columns=3"),
     ("unequal rows of one dataset", 2, "W[1,2] releasable=0 rows=3 dataset=5", "W[1,2] releasable=0 rows=4 dataset=5", "W[2,4] rows=_"),
 ];
 
@@ -175,8 +175,10 @@ const BYTES: &[Row] = &[
     ("whole range without entries", 1, "Wrange", "empty", "18"),
     ("whole categories without lists", 1, "Wlists", "empty", "20"),
     ("no list number is below 0", 1, "W{5} @2=0", "empty", "4"),
-    ("16 empty lists over one column", 1, "W{}*16", "empty", "W{}*16"),
-    ("16 empty lists over one column, binary", 2, "W{}*16", "W{}*16", "W{}*16"),
+    ("16 empty lists over one column", 1, "W{}*16", "empty", "29"),
+    ("16 empty lists over 16 columns", 1, "W{}*16 columns=16", "empty", "W{}*16 columns=16"),
+    ("16 empty lists over one column, binary", 2, "W{}*16", "W{}*16", "29"),
+    ("16 empty lists over 16 columns, binary", 2, "W{}*16", "W{}*16 columns=16", "W{}*16 columns=16"),
     ("an absent sample of -0.0", 1, "W[1,2] @71=128", "empty", "4"),
     ("an absent row count of 1", 1, "W[1,2] rows=_ @32=1", "empty", "4"),
     ("an absent bound that is not zero", 1, "W[_,2] @81=1", "empty", "4"),
@@ -209,7 +211,7 @@ const BYTES: &[Row] = &[
     ("Bool key 2", 1, "W[1,2] groups=1:b1 @85=2", "empty", "4"),
     ("Bool category 2", 9, "B{1} @81=2", "empty", "4"),
     ("falling list numbers", 1, "W{1}{2} @80=1 @81=0", "empty", "4"),
-    ("rising list numbers that leave one out", 1, "W{1}{}{2}", "empty", "W{1}{}{2}"),
+    ("rising list numbers that leave one out", 1, "W{1}{}{2} columns=3", "empty", "W{1}{}{2} columns=3"),
     ("byte 25", 1, "W[1,2] @25=1", "empty", "4"),
     ("byte 28", 1, "W[1,2] @28=1", "empty", "4"),
     ("byte 31", 1, "W[1,2] @31=255", "empty", "4"),
@@ -376,10 +378,11 @@ const ENDS: &[Row] = &[
 /// Categories.
 #[rustfmt::skip] // one case a line
 const CATEGORIES: &[Row] = &[
-    ("lists 1 and 2 over three columns", 2, "W{1} columns=3", "W{1}{2} columns=3", "W{2}{3} columns=3"),
-    ("lists 2 and 5 over three columns", 2, "W{1}{2} columns=3", "W{1}*5 columns=3", "W{2}{3}"),
-    ("Abs: two lists over three columns", 1, "W{1}{2} columns=3", "empty", "W{1}{2} columns=3"),
-    ("lists 16 and 1 over one column", 2, "W{1}*16", "W{1}", "W{2}"),
+    ("lists 1 and 2 over three columns", 2, "W{1} columns=3", "W{1}{2} columns=3", "29"),
+    ("lists 2 and 5 over three columns", 2, "W{1}{2} columns=3", "W{1}*5 columns=3", "29"),
+    ("lists 1 and 2 over two columns", 2, "W{1} columns=2", "W{1}{2} columns=2", "W{2}{3} columns=2"),
+    ("Abs: two lists over three columns", 1, "W{1}{2} columns=3", "empty", "29"),
+    ("lists 16 and 1 over one column", 2, "W{1}*16", "W{1}", "29"),
     ("65 over two columns", 9, "W{1..65} columns=2", "empty", "26"),
     ("64 over two columns", 9, "W{-64..-1} columns=2", "empty", "W{64,63,62,61,60,59,58,57,56,55,54,53,52,51,50,49,48,47,46,45,44,43,42,41,40,39,38,37,36,35,34,33,32,31,30,29,28,27,26,25,24,23,22,21,20,19,18,17,16,15,14,13,12,11,10,9,8,7,6,5,4,3,2,1}*2"),
     ("Negative drops repeats before it maps", 9, "W{3,3}", "empty", "W{-3}"),
@@ -409,6 +412,45 @@ const CATEGORIES: &[Row] = &[
     ("whole categories of type Bool", 4, "W{2} type=Bool", "W{3} type=Bool", "W{6} type=Bool"),
     ("128 spread over one column more", 2, "W{0..63} columns=2", "W{0} columns=2", "W{0..63}*2"),
     ("129 over two lists", 2, "W{0..63}{0..63} columns=2", "W{0}{0,1} columns=2", "26"),
+];
+
+/// Category lists counted (document 02, S-5).
+#[rustfmt::skip] // one case a line
+const COUNTED: &[Row] = &[
+    ("two category lists over three columns", 2, "W{1}{2} columns=3", "W{5} columns=3", "29"),
+    ("Negative: two lists over one column", 9, "W{1}{2}", "empty", "29"),
+    ("Abs: three lists over two columns", 1, "W{4}{5}{6} columns=2", "empty", "29"),
+    ("Abs: one list over three columns", 1, "W{1} columns=3", "empty", "W{1}*3 columns=3"),
+    ("Abs: three lists over three columns", 1, "W{1}{2}{3} columns=3", "empty", "W{1}{2}{3} columns=3"),
+    ("Negative: three lists over three columns", 9, "W{1}{2}{3} columns=3", "empty", "W{-1}{-2}{-3} columns=3"),
+    ("Negative: 29 before 24", 9, "W{-9223372036854775808}{1} columns=3", "empty", "29"),
+    ("Abs: 29 before 22", 1, "B{1}{0} columns=3", "empty", "29"),
+    ("Abs: 19 before 29", 1, "F{1.0}{2.0} columns=3", "empty", "19"),
+    ("Abs: 11 before 29", 1, "W{1}{2} columns=_", "empty", "11"),
+    ("left's 29 before right's 19", 3, "W{1}{2} columns=4", "F{1.0} columns=4", "29"),
+    ("left's 19 before right's 29", 3, "F{1.0} columns=4", "W{1}{2} columns=4", "19"),
+    ("left's 29 before right's 20", 2, "W{1}{2} columns=3", "Wlists columns=3", "29"),
+    ("left's 20 before right's 29", 2, "Wlists columns=3", "W{1}{2} columns=3", "20"),
+    ("left's 29 before 21", 2, "W{1}{2} columns=3", "B{1} columns=3", "29"),
+    ("right's 29 before 21", 2, "B{1} columns=3", "W{1}{2} columns=3", "29"),
+    ("29 before 22", 4, "B{1}{0} columns=3", "B{1} columns=3", "29"),
+    ("29 before a division by zero", 5, "W{1}{2} columns=3", "W{0} columns=3", "29"),
+    ("29 before 26", 2, "W{0..99}{1} columns=3", "W{0..29} columns=3", "29"),
+    ("14 before 29", 2, "W{1}{2} columns=3", "W{1} columns=3 type=Float", "14"),
+    ("12 before 29", 4, "W{1}{2} columns=3", "W{1} columns=2", "12"),
+    ("two lists over one column, to two columns", 3, "W{4}{5}", "W{1} columns=2", "W{3}{4} columns=2"),
+    ("three lists over one column, to three columns", 2, "W{1}{2}{3} columns=3", "W{10}{20}{30}", "W{11}{22}{33} columns=3"),
+    ("three lists over one column, to two columns", 2, "W{1}{2} columns=2", "W{10}{20}{30}", "29"),
+    ("two lists over one column on both sides", 2, "W{1}{2}", "W{10}{20}", "29"),
+    ("an empty list over one column, to two columns", 2, "W{0}{0} columns=2", "W{1}{}", "W{1}{} columns=2"),
+    ("two lists over four columns beside a range", 2, "W{1}{2} columns=4", "W[0,9] columns=4", "absent columns=4"),
+    ("two lists over four columns beside an absent nature", 2, "W{1}{2} columns=4", "absent columns=4", "absent columns=4"),
+    ("Float Power: right's lists by left's columns", 8, "W{1} type=Float", "W{1}{2} columns=2 type=Float", "29"),
+    ("Float Power: two lists over two columns", 8, "W{1}{2} columns=2 type=Float", "W{1} type=Float", "22"),
+    ("Float Power: 29 before 8", 8, "W{1}{2} columns=3 type=Float releasable=0 groups=1:i1", "W{1} type=Float releasable=0", "29"),
+    ("Int Power: 15 before 29", 8, "W{1}", "W{1}{2} columns=2", "15"),
+    ("Modulo: 15 before 29", 6, "W{1}{2} columns=3", "W{1}{2} columns=3", "15"),
+    ("Modulo of two lists over three columns by a range", 6, "W{1}{2} columns=3", "W[3,8]", "absent columns=3"),
 ];
 
 /// Modulo, Log and Power.
@@ -554,7 +596,15 @@ const POOLED: &[Row] = &[
     ("float categories on the left", 10, "F{1.0}", "W{1}", "19"),
     ("category kinds", 10, "W{1}", "B{1}", "21"),
     ("no lists before other kinds", 10, "Wlists", "B{1}", "20"),
-    ("short lists are not padded", 10, "W{1}{2} columns=3", "W{5} columns=3", "W{1,5}{2,5} columns=3"),
+    ("Pool: two lists over three columns", 10, "W{1}{2} columns=3", "W{5} columns=3", "29"),
+    ("Pool: two lists over two columns", 10, "W{1}{2} columns=2", "W{5} columns=2", "W{1,5}{2,5} columns=2"),
+    ("Pool: two lists of Bool over three columns", 10, "B{1}{0} columns=3", "B{1} columns=3", "29"),
+    ("Pool: two lists of texts over three columns", 10, "T{a} columns=3", "T{a}{b} columns=3", "29"),
+    ("Pool: left's 29 before right's 19", 10, "W{1}{2} columns=3", "F{1.0} columns=3", "29"),
+    ("Pool: left's 19 before right's 29", 10, "F{1.0} columns=3", "W{1}{2} columns=3", "19"),
+    ("Pool: right's 29 before 21", 10, "B{1} columns=3", "W{1}{2} columns=3", "29"),
+    ("Pool: 29 before the rows' 24", 10, "W{1}{2} columns=3 rows=9223372036854775807", "W{5} columns=3", "29"),
+    ("Pool: two lists over four columns beside a range", 10, "W{1}{2} columns=4", "W[0,9] columns=4", "absent columns=4"),
     ("a range beside categories", 10, "W[1,2]", "W{1}", "absent rows=2"),
     ("the rows' sum leaves 64 bits", 10, "W[1,2] rows=9223372036854775807", "W[1,2]", "24"),
     ("also below", 10, "W[1,2] rows=-9223372036854775808", "W[1,2] rows=-1", "24"),
@@ -650,7 +700,10 @@ const TEXTS: &[Row] = &[
     ("repeats that fill the area", 2, "T{a*512,a*512}", "T{_}", "T{a*512}"),
     ("texts of several bytes to a character", 2, "T{\u{e9},\u{20ac}}", "T{\u{1f6b0}}", "T{\u{e9}\u{1f6b0},\u{20ac}\u{1f6b0}}"),
     ("no normal forms", 2, "T{\u{e9},e\u{301}}", "T{_}", "T{\u{e9},e\u{301}}"),
-    ("short lists of texts are not padded", 2, "T{a}{b} columns=3", "T{x} columns=3", "T{ax}{bx} columns=3"),
+    ("two lists of texts over three columns", 2, "T{a}{b} columns=3", "T{x} columns=3", "29"),
+    ("two lists of texts over two columns", 2, "T{a}{b} columns=2", "T{x} columns=2", "T{ax}{bx} columns=2"),
+    ("texts: 29 before 28", 2, "T{a*600}{b} columns=3", "T{b*425} columns=3", "29"),
+    ("texts: 29 before 22", 3, "T{a} columns=3", "T{a}{b} columns=3", "29"),
     ("texts over three columns", 2, "T{a,b}", "T{x} columns=3", "T{ax,bx}*3 columns=3"),
     ("repeats of texts go list by list", 2, "T{a}{a,a} columns=2", "T{_} columns=2", "T{a}{a} columns=2"),
     ("Abs of texts", 1, "T{a}", "empty", "22"),
@@ -704,6 +757,7 @@ const RAW: &[Row] = &[
     ("Negative of bytes", 9, "T{\\ff}", "empty", "22"),
     ("Modulo of bytes by a range", 6, "T{\\ff}", "W[3,8]", "absent"),
     ("bytes over 1,024", 2, "T{\\ff*600}", "T{\\fe*425}", "28"),
+    ("two lists of bytes over three columns", 2, "T{\\ff}{\\fe} columns=3", "T{\\fd} columns=3", "29"),
 ];
 
 /// Cases that turn on the node or on the output's length.
@@ -735,6 +789,7 @@ const OUTPUTS: &[OutputRow] = &[
     ("105 bytes of texts", 2, "T{pump,fan}", "T{_}", 1, 105, "T{pump,fan}"),
     ("104 bytes for 105 of texts", 2, "T{pump,fan}", "T{_}", 1, 104, "27"),
     ("28 before 27", 2, "T{a*600}", "T{b*425}", 1, 0, "28"),
+    ("29 before 27", 1, "W{1}{2} columns=3", "empty", 1, 0, "29"),
     ("80 bytes for Modulo of texts", 6, "T{abc}", "W[3,8]", 1, 80, "absent"),
     ("the node is unsigned", 2, "W[1,2]", "W[10,20]", 4294967295, LONGEST, "W[11,22] node=4294967295"),
     ("node 0", 4, "W[1,2]", "W[10,20]", 0, LONGEST, "W[10,40] node=0"),
@@ -742,8 +797,8 @@ const OUTPUTS: &[OutputRow] = &[
 
 #[cfg(test)]
 mod tests {
-    use super::{all, differences, Case};
-    use crate::form::{is_range_subtract, Call};
+    use super::{all, differences, pool, raw, Case};
+    use crate::form::{is_range_subtract, miscounted, Call, MISCOUNTED};
     use crate::sheet::Sheet;
     use std::collections::HashSet;
 
@@ -786,6 +841,25 @@ mod tests {
         };
         assert!(differences().iter().all(reaches));
         assert!(!all().iter().any(reaches));
+    }
+
+    /// 29 is expected where lists are miscounted, and nowhere else.
+    #[test]
+    fn lists_are_counted() {
+        let mut counted = 0;
+        for case in all().iter().chain(&pool()).chain(&raw()) {
+            let code = case.expected.parse().unwrap_or(0);
+            let Call {
+                component,
+                left,
+                right,
+                ..
+            } = &case.call;
+            let refused = miscounted(*component, left, right, code).is_some();
+            assert_eq!(refused, code == MISCOUNTED, "{}", case.label);
+            counted += usize::from(refused);
+        }
+        assert!(counted > 30);
     }
 
     #[test]

@@ -234,10 +234,12 @@ fn kinds(random: &mut Random, component: u32, float_type: bool) -> (u8, u8) {
     }
 }
 
+/// One entry or list, or one for each column; of lists now and then any number, which
+/// 29 mostly refuses where it counts them.
 fn nature(random: &mut Random, kind: u8, taste: Taste, columns: i64) -> Nature {
     let spread = random.percent(50);
     let count = if spread { 1 } else { columns as usize };
-    let lists = match random.below(8) {
+    let lists = match random.below(12) {
         0 => random.below(4),
         1 => random.below(6) + 1,
         _ => count,
@@ -245,6 +247,13 @@ fn nature(random: &mut Random, kind: u8, taste: Taste, columns: i64) -> Nature {
     match kind {
         1 => Nature::WholeRange((0..count).map(|_| taste.whole_ends(random)).collect()),
         2 => Nature::FloatRange((0..count).map(|_| taste.float_ends(random)).collect()),
+        _ => categories(random, kind, taste, lists),
+    }
+}
+
+/// So many lists of a kind; of none, the absent nature.
+fn categories(random: &mut Random, kind: u8, taste: Taste, lists: usize) -> Nature {
+    match kind {
         3 => Nature::WholeLists((0..lists).map(|_| taste.whole_list(random)).collect()),
         4 => Nature::BoolLists((0..lists).map(|_| numbers::bool_list(random)).collect()),
         5 => Nature::FloatLists((0..lists).map(|_| numbers::float_list(random)).collect()),

@@ -3,6 +3,7 @@
 //! Standard library alone, so that it builds where the original is missing.
 
 pub mod cases;
+pub mod counts;
 pub mod form;
 pub mod generate;
 pub mod random;

@@ -1,6 +1,7 @@
 //! What a list holds, and whether it holds enough.
 
-use crate::form::{Call, Line, Mark, POOL, SUBTRACT};
+use crate::counts::Counts;
+use crate::form::{Call, Line, Mark, MISCOUNTED, POOL, SUBTRACT};
 use crate::sheet::TEXT;
 use std::collections::{BTreeMap, HashMap, HashSet};
 use std::fmt::Write;
@@ -21,8 +22,11 @@ const LEAST_TEXTS: usize = 40;
 /// check before 17 refuses.
 const LEAST_DIFFERENCES: usize = 80;
 const LEAST_RANGES: usize = 50;
+/// Of 29 on each side and of each kind, and of several lists that are taken or not
+/// counted.
+const LEAST_COUNTED: usize = 20;
 /// What calls with texts are wanted to be refused with.
-const TEXT_CODES: [u32; 9] = [3, 4, 15, 19, 20, 21, 22, 26, 28];
+const TEXT_CODES: [u32; 10] = [3, 4, 15, 19, 20, 21, 22, 26, 28, MISCOUNTED];
 
 /// Whether a threshold is met, and what to say if not.
 type Want = (bool, String);
@@ -32,23 +36,25 @@ type Want = (bool, String);
 /// Subtract's alone, and leaves the runs with it.
 pub fn reachable(component: u32) -> &'static [u32] {
     match component {
-        1 | 9 => &[3, 4, 5, 6, 11, 18, 19, 20, 22, 24, 26, 27],
+        1 | 9 => &[3, 4, 5, 6, 11, 18, 19, 20, 22, 24, 26, 27, 29],
         2 => &[
-            3, 4, 5, 6, 7, 8, 9, 10, 11, 12, 13, 14, 17, 18, 19, 20, 21, 22, 24, 26, 27, 28,
+            3, 4, 5, 6, 7, 8, 9, 10, 11, 12, 13, 14, 17, 18, 19, 20, 21, 22, 24, 26, 27, 28, 29,
         ],
         SUBTRACT => &[
-            3, 4, 5, 6, 7, 8, 9, 10, 11, 12, 13, 14, 17, 19, 20, 21, 22, 24, 26, 27,
+            3, 4, 5, 6, 7, 8, 9, 10, 11, 12, 13, 14, 17, 19, 20, 21, 22, 24, 26, 27, 29,
         ],
         4 => &[
-            3, 4, 5, 6, 7, 8, 9, 10, 11, 12, 13, 14, 17, 18, 19, 20, 21, 22, 24, 26, 27,
+            3, 4, 5, 6, 7, 8, 9, 10, 11, 12, 13, 14, 17, 18, 19, 20, 21, 22, 24, 26, 27, 29,
         ],
         5 => &[
-            3, 4, 5, 6, 7, 8, 9, 10, 11, 12, 13, 14, 17, 18, 19, 20, 21, 22, 23, 24, 26, 27,
+            3, 4, 5, 6, 7, 8, 9, 10, 11, 12, 13, 14, 17, 18, 19, 20, 21, 22, 23, 24, 26, 27, 29,
         ],
         6 | 7 => &[3, 4, 5, 6, 7, 8, 11, 14, 15, 16, 17, 18, 27],
-        8 => &[3, 4, 5, 6, 7, 8, 11, 14, 15, 16, 17, 18, 19, 20, 21, 22, 27],
+        8 => &[
+            3, 4, 5, 6, 7, 8, 11, 14, 15, 16, 17, 18, 19, 20, 21, 22, 27, 29,
+        ],
         POOL => &[
-            3, 4, 5, 6, 7, 8, 11, 12, 14, 17, 18, 19, 20, 21, 24, 26, 27, 28,
+            3, 4, 5, 6, 7, 8, 11, 12, 14, 17, 18, 19, 20, 21, 24, 26, 27, 28, 29,
         ],
         _ => &[2],
     }
@@ -80,6 +86,7 @@ pub struct Stats {
     /// Calls that read a sheet with texts, by code.
     texts: BTreeMap<u32, usize>,
     subtracts: Subtracts,
+    counts: Counts,
 }
 
 /// Calls of Subtract.
@@ -117,6 +124,7 @@ impl Stats {
             natures: BTreeMap::new(),
             texts: BTreeMap::new(),
             subtracts: Subtracts::default(),
+            counts: Counts::default(),
         };
         for line in lines {
             stats.count(line);
@@ -152,6 +160,8 @@ impl Stats {
         if answer.code == 0 {
             *self.natures.entry(natures).or_default() += 1;
         }
+        let read = (call.component, &call.left[..], &call.right[..]);
+        self.counts.count(read, answer.code, &answer.bytes);
         self.subtracts.ranges += usize::from(line.is_range_subtract());
         match (call.component, natures, answer.code) {
             (SUBTRACT, (1, 1) | (2, 2), 6..=14) => self.subtracts.refused += 1,
@@ -171,6 +181,7 @@ impl Stats {
         wants.extend(self.output_wants());
         wants.extend(self.text_wants());
         wants.extend(self.subtract_wants());
+        wants.extend(self.count_wants());
         let missed = wants.into_iter().filter(|(holds, _)| !holds);
         missed.map(|(_, text)| text).collect()
     }
@@ -259,9 +270,41 @@ impl Stats {
         ]
     }
 
+    /// Enough of 29 and of what is not counted, and no 29 that is out of place.
+    fn count_wants(&self) -> Vec<Want> {
+        let Counts {
+            sides: [left, right],
+            kinds: [whole, bools, texts],
+            taken: [own, others],
+            unused,
+            wrong,
+        } = self.counts;
+        let wants = [
+            (left, "left operands refused with 29"),
+            (right, "right operands refused with 29"),
+            (whole, "operands of whole lists refused with 29"),
+            (bools, "operands of Bool lists refused with 29"),
+            (texts, "operands of text lists refused with 29"),
+            (own, "operands with a list for each of their columns"),
+            (
+                others,
+                "operands with a list for each of the output's columns",
+            ),
+            (unused, "operands whose lists are not counted"),
+        ];
+        let least = LEAST_COUNTED;
+        let enough = |(count, what): (usize, &str)| {
+            (count >= least, format!("{count} {what}, wanted {least}"))
+        };
+        let none = format!("29 is out of place {wrong} times, wanted none");
+        let mut wants = wants.map(enough).to_vec();
+        wants.push((wrong == 0, none));
+        wants
+    }
+
     /// The table of components and codes, and what stands beside it.
     pub fn table(&self) -> String {
-        let codes = [0].into_iter().chain(2..=28).filter(|code| *code != 25);
+        let codes = [0].into_iter().chain(2..=29).filter(|code| *code != 25);
         let codes: Vec<u32> = codes.collect();
         let mut text = format!("{:10}", "");
         for code in &codes {
@@ -326,6 +369,7 @@ impl Stats {
             "\nSubtract: {} differences of categories, {} pairs of ranges refused before 17, {} range Subtracts",
             self.subtracts.lists, self.subtracts.refused, self.subtracts.ranges
         );
+        let _ = writeln!(text, "{}", self.counts);
         text
     }
 }
@@ -392,6 +436,28 @@ mod tests {
             mark: Mark::Rust,
         };
         Line { call, answer }
+    }
+
+    /// 29 that is due and not said, and 29 that is said of lists that pass.
+    #[test]
+    fn a_wrong_count_is_a_miss() {
+        let misses = |component, left, right, code| {
+            let stats = Stats::of(&[line(component, left, right, code)], 0);
+            let named = |miss: &String| miss.starts_with("29 is out of place");
+            stats.misses().iter().any(named)
+        };
+        let two = "W{1}{2} columns=3";
+        for code in [0, 19, 20, 21, 22, 24, 26, 27, 28] {
+            assert!(misses(2, two, "W{1} columns=3", code));
+            assert!(misses(9, two, "empty", code));
+        }
+        for code in (3..=16).chain([29]) {
+            assert!(!misses(2, two, "W{1} columns=3", code));
+        }
+        assert!(misses(2, "W{1}{2}", "W{1} columns=2", 29));
+        assert!(misses(2, two, "W[1,2] columns=3", 29));
+        assert!(misses(2, "F{1.0}", "W{1}{2}", 29));
+        assert!(misses(6, two, two, 29));
     }
 
     #[test]

@@ -6,7 +6,7 @@ use crate::messages::{self, BASE_BREAKS, OVERFLOWS};
 use crate::root::value;
 use crate::stand_ins::{proto, Component};
 use indexmap::map::IndexMap;
-use oracle_list::form::{hex, is_range_subtract, Answer, Mark, POOL};
+use oracle_list::form::{hex, is_range_subtract, miscounted, Answer, Mark, MISCOUNTED, POOL};
 use oracle_list::sheet::{Nature, Sheet, MOST_CATEGORIES, MOST_TEXT};
 use std::cell::Cell;
 use std::panic::{catch_unwind, set_hook, take_hook, AssertUnwindSafe};
@@ -15,7 +15,8 @@ use std::sync::Once;
 const LOG: u32 = 7;
 
 /// The answer to a single call, by the documents. The order of the checks 6 to
-/// 25 is the original's own; this function adds 2 to 5 before, 26, 28 and 27 after.
+/// 25 is the original's own; this function adds 2 to 5 before, 29 directly behind
+/// 20, and 26, 28 and 27 after.
 ///
 /// # Panics
 /// If the original ends in a way that has no number, on permitted sheets that it
@@ -37,7 +38,11 @@ pub fn asked(
     right: &[u8],
     out_len: usize,
 ) -> Option<Answer> {
-    let answer = match accept(component, node, left, right) {
+    let word = accept(component, node, left, right);
+    let code = word.as_ref().err().map_or(0, |refusal| refusal.code);
+    let answer = match word {
+        // What the original says of such lists is no answer.
+        _ if miscounted(component, left, right, code).is_some() => refuse(MISCOUNTED, Mark::Added),
         Err(refusal) => refusal,
         Ok(sheet) => written(&sheet, out_len),
     };
@@ -70,7 +75,7 @@ fn refuse(code: u32, mark: Mark) -> Answer {
     Answer { code, bytes, mark }
 }
 
-/// The derived sheet before 26, 28 and 27, or the refusal.
+/// The derived sheet before 29, 26, 28 and 27, or the refusal.
 fn accept(component: u32, node: u32, left: &[u8], right: &[u8]) -> Result<Sheet, Answer> {
     if !(1..=POOL).contains(&component) {
         return Err(refuse(2, Mark::Added));
@@ -227,4 +232,41 @@ fn silence_panics() {
             }
         }));
     });
+}
+
+#[cfg(test)]
+mod tests {
+    use super::{accept, asked};
+    use oracle_list::form::MISCOUNTED;
+    use oracle_list::generate::call_for;
+    use oracle_list::random::Random;
+    use oracle_list::sheet::LONGEST;
+    use std::collections::BTreeMap;
+
+    /// 29 stands for whatever the original says behind 20: it accepts such lists,
+    /// or finds right's 19 or 20, 21, 22 or 24. All else is its own.
+    #[test]
+    fn what_29_stands_for() {
+        let mut random = Random::new(7);
+        let mut words: BTreeMap<u32, usize> = BTreeMap::new();
+        for component in [1, 2, 3, 4, 5, 8, 9] {
+            for _ in 0..4000 {
+                let call = call_for(&mut random, component, MISCOUNTED);
+                let (left, right) = (&call.left, &call.right);
+                let word = accept(component, call.node, left, right);
+                let code = word.as_ref().err().map_or(0, |refusal| refusal.code);
+                match asked(component, call.node, left, right, LONGEST) {
+                    Some(answer) if answer.code == MISCOUNTED => {
+                        *words.entry(code).or_default() += 1
+                    }
+                    // 26 and 28 are added behind an accepted sheet.
+                    Some(answer) => assert!(answer.code == code || code == 0),
+                    None => (),
+                }
+            }
+        }
+        let codes: Vec<u32> = words.keys().copied().collect();
+        assert_eq!(codes, [0, 19, 20, 21, 22, 24], "{:?}", words);
+        assert!(words.values().all(|count| *count > 50), "{:?}", words);
+    }
 }

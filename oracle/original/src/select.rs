@@ -3,6 +3,7 @@
 
 use crate::{answer, asked};
 use oracle_list::cases;
+use oracle_list::counts::Counts;
 use oracle_list::form::{Answer, Call, Line, Mark, SUBTRACT};
 use oracle_list::generate::{bad_component, call, call_for, call_towards, AIMS};
 use oracle_list::random::Random;
@@ -14,6 +15,7 @@ use std::io::{self, Write};
 const ACCEPTED: usize = 160;
 const REFUSED: usize = 16;
 const DECIDED: usize = 24;
+const OUTPUT_LISTS: usize = 16;
 const TWOFOLD: usize = 50;
 /// An output longer than any sheet.
 const LONGER: usize = 3000;
@@ -87,7 +89,7 @@ fn write_head(seed: u64, out: &mut impl Write) -> io::Result<()> {
     )?;
     writeln!(
         out,
-        "# it (2 to 5, 26 to 28, and 24 by unchecked arithmetic); decided, Log over two"
+        "# it (2 to 5, 26 to 29, and 24 by unchecked arithmetic); decided, Log over two"
     )?;
     writeln!(out, "# whole ranges, where the project answers 15.")?;
     writeln!(out, "# Made by: oracle list --seed {}", seed)
@@ -172,6 +174,11 @@ impl Selection {
         };
         let decided = self.fill_with(DECIDED, log, |line| line.answer.mark == Mark::Decided);
         lines.extend(decided);
+        let pair = |random: &mut Random| {
+            let component = random.between(2, 5) as u32;
+            call_for(random, component, 0)
+        };
+        lines.extend(self.fill_with(OUTPUT_LISTS, pair, has_output_lists));
         self.spread.clear();
         for component in 1..=9 {
             lines.extend(self.fill_twofold(component));
@@ -272,6 +279,16 @@ impl Selection {
         }
         lines
     }
+}
+
+/// Whether an operand has a list for each of the output's columns, and not for each of
+/// its own.
+fn has_output_lists(line: &Line) -> bool {
+    let Line { call, answer } = line;
+    let mut counts = Counts::default();
+    let read = (call.component, &call.left[..], &call.right[..]);
+    counts.count(read, answer.code, &answer.bytes);
+    counts.taken[1] > 0
 }
 
 /// Sheets too short to have a nature count as 9, and so does an unread one.

@@ -1,7 +1,7 @@
 //! The oracle as a whole: named cases, seeded calls, the decided difference.
 
 use oracle_list::cases;
-use oracle_list::form::{Call, Mark, POOL, SUBTRACT};
+use oracle_list::form::{Call, Mark, MISCOUNTED, POOL, SUBTRACT};
 use oracle_list::generate::call_of;
 use oracle_list::random::Random;
 use oracle_list::sheet::{Sheet, LONGEST};
@@ -179,6 +179,47 @@ fn texts_that_are_refused() {
     assert_eq!(mark(2, "T{a*600}", "T{a*424}"), (0, Mark::Rust));
     assert_eq!(mark(2, "T{a*600}", "T{a*425}"), (28, Mark::Added));
     assert_eq!(mark(2, "T{12#50}", "T{11#50}"), (26, Mark::Added));
+}
+
+/// 29 is added where the original would map or combine such lists, or refuse them
+/// behind 20; what it refuses before, and mixed natures, stay its own.
+#[test]
+fn lists_are_counted() {
+    let mark = |component, left, right| {
+        let answer = answer(component, 1, &bytes(left), &bytes(right), LONGEST);
+        (answer.code, answer.mark)
+    };
+    let (two, one) = ("W{1}{2} columns=3", "W{1} columns=3");
+    for component in [1, 2, 3, 4, 5, 9] {
+        assert_eq!(mark(component, two, one), (29, Mark::Added));
+    }
+    for other in ["F{1.0} columns=3", "Wlists columns=3", "B{1} columns=3"] {
+        assert_eq!(mark(2, two, other), (29, Mark::Added), "{}", other);
+    }
+    assert_eq!(mark(2, "F{1.0} columns=3", two), (19, Mark::Rust));
+    assert_eq!(mark(2, "Wlists columns=3", two), (20, Mark::Rust));
+    assert_eq!(mark(2, "B{1} columns=3", two), (29, Mark::Added));
+    assert_eq!(mark(2, two, "W{1} type=Float"), (14, Mark::Rust));
+    assert_eq!(mark(6, two, two), (15, Mark::Rust));
+    for mixed in ["W[1,2] columns=3", "absent columns=3"] {
+        assert_eq!(mark(2, two, mixed), (0, Mark::Rust), "{}", mixed);
+        assert_eq!(mark(2, mixed, two), (0, Mark::Rust), "{}", mixed);
+    }
+    assert_eq!(mark(2, "W{1}{2}", "W{1} columns=2"), (0, Mark::Rust));
+}
+
+/// Among seeded calls 29 stands where lists are miscounted, and nowhere else.
+#[test]
+fn seeded_lists_are_counted() {
+    let mut random = Random::new(9);
+    let mut counted = 0;
+    for _ in 0..20_000 {
+        let line = drawn(&mut random);
+        let refused = line.answer.code == MISCOUNTED;
+        assert_eq!(line.miscounted().is_some(), refused, "{}", line);
+        counted += usize::from(refused);
+    }
+    assert!(counted > 500, "{}", counted);
 }
 
 /// 24 by a checked operation is the original's; by a panic it is added.

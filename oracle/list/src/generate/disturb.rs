@@ -4,14 +4,14 @@ use super::numbers::{self, Scale, Taste};
 use super::texts;
 use crate::form::POOL;
 use crate::random::Random;
-use crate::sheet::{Key, Nature, Sheet, MOST_TEXT, TEXT};
+use crate::sheet::{Key, Nature, Sheet, MOST_LISTS, MOST_TEXT, TEXT};
 
 /// The component that joins texts.
 const ADD: u32 = 2;
 
 /// The refusals that a call can be led to.
 pub const AIMS: &[u32] = &[
-    3, 4, 5, 6, 7, 8, 9, 10, 11, 12, 13, 14, 15, 16, 17, 18, 19, 20, 21, 22, 23, 24, 26, 28,
+    3, 4, 5, 6, 7, 8, 9, 10, 11, 12, 13, 14, 15, 16, 17, 18, 19, 20, 21, 22, 23, 24, 26, 28, 29,
 ];
 
 pub fn sheets(random: &mut Random, aim: u32, component: u32, left: &mut Sheet, right: &mut Sheet) {
@@ -30,6 +30,7 @@ pub fn sheets(random: &mut Random, aim: u32, component: u32, left: &mut Sheet, r
         26 if component == POOL => long_unions(random, left, right),
         26 => many_categories(random, left, right),
         28 => long_texts(random, component, left, right),
+        29 => miscounts(random, component, left, right),
         _ => (),
     }
 }
@@ -257,6 +258,45 @@ fn wrong_count(random: &mut Random, component: u32, left: &mut Sheet, right: &mu
         Nature::WholeRange(entries) => *entries = entries.repeat(count),
         Nature::FloatRange(entries) => *entries = entries.repeat(count),
         _ => (),
+    }
+}
+
+/// 29: categories, mostly on both sides, and on one side neither one list nor one
+/// for each output column. Beside them 19 to 22 may stand on either side.
+fn miscounts(random: &mut Random, component: u32, left: &mut Sheet, right: &mut Sheet) {
+    if component == 8 {
+        (left.data_type, right.data_type) = (3, 3);
+    }
+    let taste = Taste::new(random);
+    let kinds = match random.below(4) {
+        0 => random.pick(&[
+            (3, 4),
+            (4, 3),
+            (3, 5),
+            (5, 3),
+            (6, 5),
+            (6, 4),
+            (1, 3),
+            (3, 0),
+        ]),
+        _ => random.pick(&[(3, 3), (3, 3), (4, 4), (6, 6)]),
+    };
+    let output = match component {
+        6..=8 => left.columns.unwrap_or(1) as usize,
+        _ => most_columns(left, right),
+    };
+    let counts = (2..=MOST_LISTS.min(output + 3)).filter(|count| *count != output);
+    let counts: Vec<usize> = counts.collect();
+    left.nature = super::nature(random, kinds.0, taste, output as i64);
+    right.nature = super::nature(random, kinds.1, taste, output as i64);
+    let unary = component == 1 || component == 9;
+    let (sheet, kind) = match unary || random.percent(50) {
+        true => (left, kinds.0),
+        false => (right, kinds.1),
+    };
+    if kind >= 3 {
+        let count = random.pick(&counts);
+        sheet.nature = super::categories(random, kind, taste, count);
     }
 }
 
