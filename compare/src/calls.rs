@@ -73,6 +73,7 @@ fn count(tally: &mut Tally, call: &Request, wanted: &Expected) {
     let read = (call.component, call.left, call.right);
     tally.count_texts(read, wanted.code, &wanted.bytes);
     tally.count_subtract(read, wanted.code, &wanted.bytes);
+    tally.count_lists(read, wanted.code, &wanted.bytes);
     tally.count_range(call.component, &wanted.bytes);
     if call.component == POOL {
         tally.count_pool(wanted.code, &wanted.bytes);
@@ -270,6 +271,11 @@ mod tests {
         let ranges = tally.ranges();
         assert!(ranges.of.iter().all(|count| *count > 20), "{tally}");
         assert!(ranges.infinite > 2, "{tally}");
+        let counts = tally.counts();
+        assert!(counts.sides.iter().min() > Some(&40), "{tally}");
+        assert!(counts.kinds.iter().min() > Some(&20), "{tally}");
+        assert!(counts.taken.iter().min() > Some(&3), "{tally}");
+        assert!(counts.unused > 20 && tally.listed() > 100, "{tally}");
         assert!(
             tally.of(0) > 400 && tally.of(3) > 100 && tally.of(4) > 100 && tally.of(27) > 20,
             "{tally}"

@@ -7,7 +7,8 @@ mod leaves;
 use crate::exact::{Exact, TooLong};
 use crate::plans::{self, is_unary, Draft, Step, MOST_NODES, PLANS, SLOT};
 use crate::tally::Tally;
-use oracle_list::form::{hex, POOL, SUBTRACT};
+use crate::Reply;
+use oracle_list::form::{hex, MISCOUNTED, POOL, SUBTRACT};
 use oracle_list::random::Random;
 use oracle_list::sheet::{Nature, Sheet};
 use oracle_list::stats::NAMES;
@@ -57,6 +58,36 @@ pub struct Counts {
     pub reached: [usize; 2],
     /// Log on operands that meet the premises, refused as it has to be.
     pub log_refused: usize,
+    pub counting: Counting,
+}
+
+/// Who counts the category lists of a plan's leaves.
+#[derive(Default)]
+pub struct Counting {
+    /// Plans with a leaf whose lists a step counts and the premise does not: in all,
+    /// and with several lists.
+    pub by_step: [usize; 2],
+    /// Plans with a leaf whose lists the premise counts, since no step does: in all,
+    /// and with several lists.
+    pub by_premise: [usize; 2],
+    /// Accepted plans that do not meet the premises, for such a leaf; and those of
+    /// them in which a step counts its lists, at another column count than its own.
+    pub outside: usize,
+    pub elsewhere: usize,
+    /// Plans that 29 refuses at their last step.
+    pub refused: usize,
+}
+
+impl fmt::Display for Counting {
+    fn fmt(&self, f: &mut fmt::Formatter) -> fmt::Result {
+        let ([step, steps], [premise, premises]) = (self.by_step, self.by_premise);
+        write!(
+            f,
+            "category leaves: {step} plans with one whose lists a step counts and the premise does not ({steps} with several lists), {premise} with one whose lists the premise counts ({premises} with several); \
+             outside the premises {} accepted plans with a leaf of another count ({} of them with a step that counts it at other columns than its own); {} plans refused with 29",
+            self.outside, self.elsewhere, self.refused
+        )
+    }
 }
 
 impl fmt::Display for Counts {
@@ -88,6 +119,7 @@ impl fmt::Display for Counts {
             "range Subtract: {} steps; of {} results {lowers} are the lower end, {uppers} the upper",
             self.subtracts, self.subtracted
         )?;
+        writeln!(f, "{}", self.counting)?;
         write!(
             f,
             "{} rows ({} with a number beyond 64 bits) and {} given up as too long; {} results held against {} present ends and {} lists",
@@ -101,11 +133,13 @@ pub fn generated(seed: u64, count: usize) -> Counts {
     let mut random = Random::new(seed);
     let mut counts = Counts::default();
     while counts.tally.total() < count {
-        let draft = draw(&mut random, &mut counts);
-        let Some(sheets) = run(&draft, &mut counts).filter(|_| !draft.steps.is_empty()) else {
+        let (draft, wanted) = draw(&mut random, &mut counts);
+        let sheets = run(&draft, wanted, &mut counts);
+        let Some(sheets) = sheets.filter(|_| !draft.steps.is_empty()) else {
             continue;
         };
         counts.tally.count(0);
+        count_leaves(&draft, &sheets, &mut counts.counting);
         for (step, sheet) in draft.steps.iter().zip(&sheets[draft.leaves.len()..]) {
             counts.steps[step.component as usize - 1] += 1;
             counts.subtracts += usize::from(is_difference(step, sheet));
@@ -126,6 +160,22 @@ pub fn generated(seed: u64, count: usize) -> Counts {
         }
     }
     counts
+}
+
+/// Counts a plan that meets the premises by who counts its leaves' lists.
+fn count_leaves(draft: &Draft, sheets: &[Sheet], counting: &mut Counting) {
+    let leaves = 0..draft.leaves.len();
+    let listed = leaves.filter(|leaf| has_lists(&sheets[*leaf]));
+    let (by_step, by_premise): (Vec<usize>, Vec<usize>) =
+        listed.partition(|leaf| is_counted(*leaf, &draft.steps, sheets));
+    for (counts, of_plan) in [
+        (&mut counting.by_step, by_step),
+        (&mut counting.by_premise, by_premise),
+    ] {
+        let several = |leaf: &usize| sheets[*leaf].nature.lists() > 1;
+        counts[0] += usize::from(!of_plan.is_empty());
+        counts[1] += usize::from(of_plan.iter().any(several));
+    }
 }
 
 /// Turn 0 takes left everywhere, turn 1 right; the others choose step by step.
@@ -161,12 +211,13 @@ fn show(draft: &Draft, fault: &str) -> String {
     )
 }
 
-/// The nodes' sheets after the plan calls, if the plan is accepted and meets
-/// the premises; a plan call that differs from the others is a difference.
-fn run(draft: &Draft, counts: &mut Counts) -> Option<Vec<Sheet>> {
+/// The work buffer after the plan calls, if the plan is accepted. A plan call that
+/// differs from the others, or replies otherwise than its steps did one by one, is a
+/// difference.
+fn walk(draft: &Draft, wanted: Reply, counts: &mut Counts) -> Option<Vec<u8>> {
     let work = plans::lay_out(&draft.request(), 0);
     let plan = draft.encode();
-    let mut first: Option<((u32, u32), Vec<u8>)> = None;
+    let mut first: Option<(Reply, Vec<u8>)> = None;
     for (name, answer) in PLANS {
         let mut lent = work.clone();
         let reply = answer(&plan, &mut lent);
@@ -178,10 +229,20 @@ fn run(draft: &Draft, counts: &mut Counts) -> Option<Vec<Sheet>> {
                 .differ(|| show(draft, &format!("{name} differs"))),
         }
     }
-    let ((code, nodes), work) = first?;
-    if code != 0 || nodes as usize != draft.nodes() {
+    let (reply, work) = first?;
+    if reply != wanted {
+        let fault = format!("reply {reply:?}, wanted {wanted:?}");
+        counts.tally.differ(|| show(draft, &fault));
         return None;
     }
+    counts.counting.refused += usize::from(reply.0 == MISCOUNTED);
+    (reply.0 == 0).then_some(work)
+}
+
+/// The nodes' sheets after the plan calls, if the plan is accepted and meets the
+/// premises.
+fn run(draft: &Draft, wanted: Reply, counts: &mut Counts) -> Option<Vec<Sheet>> {
+    let work = walk(draft, wanted, counts)?;
     let sheets: Option<Vec<Sheet>> = (0..draft.nodes())
         .map(|node| sheet_at(&work[SLOT * node..SLOT * (node + 1)]))
         .collect();
@@ -189,7 +250,32 @@ fn run(draft: &Draft, counts: &mut Counts) -> Option<Vec<Sheet>> {
         counts.tally.differ(|| show(draft, "a slot holds no sheet"));
         return None;
     };
-    premises(draft.leaves.len(), &draft.steps, &sheets).then_some(sheets)
+    let leaves = 0..draft.leaves.len();
+    let odd: Vec<usize> = leaves
+        .filter(|leaf| has_lists(&sheets[*leaf]) && !one_or_each(&sheets[*leaf]))
+        .collect();
+    let met = premises(draft.leaves.len(), &draft.steps, &sheets);
+    if !odd.is_empty() {
+        count_outside(draft, &sheets, &odd, met, counts);
+        return None;
+    }
+    met.then_some(sheets)
+}
+
+/// An accepted plan with leaves of another count of lists. The premises ask for as much
+/// as if they counted every leaf's lists themselves, since 29 has counted the others:
+/// one that meets them is a difference.
+fn count_outside(draft: &Draft, sheets: &[Sheet], odd: &[usize], met: bool, counts: &mut Counts) {
+    if met {
+        let fault = "the premises are met with a leaf of another count";
+        return counts.tally.differ(|| show(draft, fault));
+    }
+    let combined = |step: &Step| {
+        let both = has_lists(&sheets[step.left]) && has_lists(&sheets[step.right]);
+        both && (odd.contains(&step.left) || odd.contains(&step.right))
+    };
+    counts.counting.outside += 1;
+    counts.counting.elsewhere += usize::from(draft.steps.iter().any(combined));
 }
 
 fn sheet_at(slot: &[u8]) -> Option<Sheet> {
@@ -207,21 +293,55 @@ fn is_difference(step: &Step, sheet: &Sheet) -> bool {
     step.component == SUBTRACT && matches!(sheet.nature, Nature::WholeRange(_))
 }
 
-/// The premises of demand 3, over the sheets. None is on Subtract (document 02, S-4).
+/// The premises of demand 3, over the sheets of an accepted plan. None is on
+/// Subtract (document 02, S-4), and none on the count of a leaf's category lists
+/// where a step counts them (S-5).
 pub fn premises(leaves: usize, steps: &[Step], sheets: &[Sheet]) -> bool {
-    sheets[..leaves].iter().all(leaf_fits)
+    let leaf_fits = |leaf: usize| match sheets[leaf].nature {
+        Nature::WholeRange(_) => one_or_each(&sheets[leaf]),
+        Nature::WholeLists(_) => {
+            let counted = is_counted(leaf, steps, sheets);
+            sheets[leaf].columns.is_some() && (counted || one_or_each(&sheets[leaf]))
+        }
+        _ => false,
+    };
+    (0..leaves).all(leaf_fits)
         && steps
             .iter()
             .all(|step| step_fits(step.component, &sheets[step.left], &sheets[step.right]))
 }
 
-fn leaf_fits(leaf: &Sheet) -> bool {
-    let whole = matches!(leaf.nature, Nature::WholeRange(_) | Nature::WholeLists(_));
-    let lists = leaf.nature.lists();
-    whole
-        && leaf
-            .columns
-            .is_some_and(|columns| lists == 1 || lists as i64 == columns)
+/// Whether a sheet has one entry or list, or one for each of its own columns.
+fn one_or_each(sheet: &Sheet) -> bool {
+    let lists = sheet.nature.lists();
+    sheet
+        .columns
+        .is_some_and(|columns| lists == 1 || lists as i64 == columns)
+}
+
+fn has_lists(sheet: &Sheet) -> bool {
+    !matches!(
+        sheet.nature,
+        Nature::Absent | Nature::WholeRange(_) | Nature::FloatRange(_)
+    )
+}
+
+/// Whether 29 has counted a leaf's lists by its own columns: some step reads it and
+/// is Abs or Negative, or one of 2 to 5 or Pool with categories on both sides and a
+/// sheet that states the leaf's own column count.
+fn is_counted(leaf: usize, steps: &[Step], sheets: &[Sheet]) -> bool {
+    let leaves = sheets.len() - steps.len();
+    let counting = |(step, derived): (&Step, &Sheet)| {
+        let both = has_lists(&sheets[step.left]) && has_lists(&sheets[step.right]);
+        let own = derived.columns == sheets[leaf].columns;
+        match step.component {
+            _ if step.left != leaf && step.right != leaf => false,
+            1 | 9 => true,
+            2..=5 | POOL => both && own,
+            _ => false,
+        }
+    };
+    steps.iter().zip(&sheets[leaves..]).any(counting)
 }
 
 fn step_fits(component: u32, left: &Sheet, right: &Sheet) -> bool {
@@ -382,8 +502,12 @@ fn keeps(sheet: &Sheet, column: usize, value: &Exact, counts: &mut Counts) -> bo
 /// Tries at a step: operands that suit Modulo and Power are rare.
 const TRIES: usize = 6;
 
-/// A plan whose steps meet the premises and are accepted one by one.
-fn draw(random: &mut Random, counts: &mut Counts) -> Draft {
+/// Tries in a hundred that 29 refuses and that end the plan so.
+const ENDED: usize = 30;
+
+/// A plan whose steps meet the premises and are accepted one by one, but for a last
+/// one that 29 may refuse; and the reply that it is to have.
+fn draw(random: &mut Random, counts: &mut Counts) -> (Draft, Reply) {
     let nodes = match random.below(10) {
         0..=4 => random.between(2, 6),
         5..=8 => random.between(4, 12),
@@ -402,11 +526,23 @@ fn draw(random: &mut Random, counts: &mut Counts) -> Draft {
         let component = plans::component(random, &plans::ALL);
         let found = (0..TRIES).find_map(|_| nodes_so_far.try_step(random, component, counts));
         match found {
-            Some(step) => draft.steps.push(step),
+            Some(Tried::Accepted(step)) => draft.steps.push(step),
+            Some(Tried::Miscounted(step)) => {
+                let refused = draft.nodes() as u32;
+                draft.steps.push(step);
+                return (draft, (MISCOUNTED, refused));
+            }
             None => misses += 1,
         }
     }
-    draft
+    let accepted = (0, draft.nodes() as u32);
+    (draft, accepted)
+}
+
+/// A step that was tried: accepted, or refused with 29 and to be the plan's last.
+enum Tried {
+    Accepted(Step),
+    Miscounted(Step),
 }
 
 /// The nodes of a plan that is being drawn.
@@ -422,7 +558,7 @@ impl Nodes {
         random: &mut Random,
         component: u32,
         counts: &mut Counts,
-    ) -> Option<Step> {
+    ) -> Option<Tried> {
         let left = random.below(self.bytes.len());
         let right = if is_unary(component) {
             left
@@ -432,28 +568,26 @@ impl Nodes {
         if !step_fits(component, &self.sheets[left], &self.sheets[right]) {
             return None;
         }
+        let step = Step {
+            component,
+            left,
+            right,
+        };
         let mut out = [0; SLOT];
         let node = self.bytes.len() as u32;
-        let reply = plain_port::propagate_property(
-            component,
-            node,
-            &self.bytes[left],
-            &self.bytes[right],
-            &mut out,
-        );
+        let operands = (&self.bytes[left], &self.bytes[right]);
+        let reply =
+            plain_port::propagate_property(component, node, operands.0, operands.1, &mut out);
         if reply.0 != 0 {
             counts.log_refused += usize::from(component == LOG);
-            return None;
+            let ends = reply.0 == MISCOUNTED && random.percent(ENDED);
+            return ends.then_some(Tried::Miscounted(step));
         }
         let derived = &out[..reply.1 as usize];
         self.sheets
             .push(Sheet::decode_unordered(derived).expect("the port writes sheets"));
         self.bytes.push(derived.to_vec());
-        Some(Step {
-            component,
-            left,
-            right,
-        })
+        Some(Tried::Accepted(step))
     }
 }
 
@@ -477,6 +611,12 @@ mod tests {
         assert!(left.min(right).min(counts.apart) > 1000, "{counts}");
         let [lower, upper] = counts.reached;
         assert!(counts.subtracts > 150 && lower.min(upper) > 200, "{counts}");
+        let counting = &counts.counting;
+        assert!(
+            counting.by_step[1].min(counting.by_premise[1]) > 40,
+            "{counts}"
+        );
+        assert!(counting.outside.min(counting.refused) > 40, "{counts}");
     }
 
     /// The sheets of an accepted plan of two leaves and one step, and the step.
@@ -599,13 +739,101 @@ mod tests {
             right: 0,
         });
         let mut counts = Counts::default();
-        let sheets = run(&draft, &mut counts).expect("an accepted plan");
+        let sheets = run(&draft, (0, 2), &mut counts).expect("an accepted plan");
         assert_eq!(sheets[1].nature, text::sheet("W[-1,1]").nature);
         for number in [0, 1] {
             try_row(&draft, &sheets, one_column(&[number]), &mut counts);
         }
         assert_eq!((counts.tally.differences, counts.rows), (0, 2));
         assert_eq!((counts.subtracted, counts.reached), (2, [0, 0]));
+    }
+
+    /// A plan of these leaves and steps: the reply, and whether it meets the premises
+    /// if it is accepted.
+    fn counted(leaves: &[&str], steps: &[(u32, usize, usize)]) -> ((u32, u32), Option<bool>) {
+        let mut draft = Draft::new(leaves.iter().map(|leaf| text::bytes(leaf)).collect());
+        let step = |&(component, left, right): &(u32, usize, usize)| Step {
+            component,
+            left,
+            right,
+        };
+        draft.steps.extend(steps.iter().map(step));
+        let mut work = plans::lay_out(&draft.request(), 0);
+        let reply = plain_port::propagate_properties(&draft.encode(), &mut work);
+        let sheets = || work.chunks(SLOT).map(|slot| sheet_at(slot).unwrap());
+        let met = || premises(leaves.len(), &draft.steps, &sheets().collect::<Vec<_>>());
+        (reply, (reply.0 == 0).then(met))
+    }
+
+    /// A leaf whose lists a step counts: the plan is refused, or the count was right. One
+    /// that nobody counts has to have one list or one for each column by the premise.
+    #[test]
+    fn lists_are_counted_by_a_step_or_by_the_premise() {
+        let (two, range) = ("W{1}{2} columns=3", "W[1,2] columns=3");
+        let (met, unmet) = (Some(true), Some(false));
+        assert_eq!(counted(&[two, range], &[(2, 0, 1)]), ((0, 3), unmet));
+        let both = [(2, 0, 1), (9, 0, 0)];
+        assert_eq!(counted(&[two, range], &both), ((29, 3), None));
+        assert_eq!(counted(&[two], &[]), ((0, 1), unmet));
+        for fitting in ["W{1} columns=3", "W{1}{2}{3} columns=3"] {
+            assert_eq!(counted(&[fitting, range], &[(2, 0, 1)]), ((0, 3), met));
+            assert_eq!(counted(&[fitting, range], &both), ((0, 4), met));
+            assert_eq!(counted(&[fitting], &[]), ((0, 1), met));
+        }
+        // A range's entries are the premise's, whatever a step reads.
+        let three = "W[1,2]*3 columns=2";
+        let lists = "W{1} columns=2";
+        assert_eq!(counted(&[three, lists], &[(2, 0, 1)]), ((0, 3), unmet));
+    }
+
+    /// Which steps count a leaf's lists: those that map them, and those that combine them
+    /// with categories at the leaf's own column count.
+    #[test]
+    fn steps_that_count() {
+        let counts = |component, left, right| {
+            let (sheets, steps) = walked(component, left, right);
+            [0, 1].map(|leaf| is_counted(leaf, &steps, &sheets))
+        };
+        let (one, two) = ("W{3}", "W{1}{2} columns=2");
+        for component in [2, SUBTRACT, 4, 5] {
+            assert_eq!(counts(component, two, two), [true, true]);
+            // Two columns come out, and left has one.
+            assert_eq!(counts(component, one, two), [false, true]);
+            assert_eq!(counts(component, two, "W[3,4] columns=2"), [false, false]);
+        }
+        assert_eq!(counts(POOL, two, two), [true, true]);
+        assert_eq!(counts(POOL, two, "W[3,4] columns=2"), [false, false]);
+        assert_eq!(counts(6, two, "W[3,4] columns=2"), [false, false]);
+        assert_eq!(counts(8, two, "W[3,4] columns=2"), [false, false]);
+        let steps = [(1, 0, 0), (9, 1, 1)].map(|(component, left, right)| Step {
+            component,
+            left,
+            right,
+        });
+        let sheets = [two, two, two].map(text::sheet);
+        assert!(is_counted(0, &steps[..1], &sheets[..2]));
+        assert!(is_counted(1, &steps[1..], &sheets));
+        assert!(!is_counted(0, &steps[1..], &sheets));
+    }
+
+    /// Without "at that leaf's own column count" the claim is false: 29 has counted the
+    /// lists of a leaf of one column by the two of the sum.
+    #[test]
+    fn lists_counted_at_other_columns_are_no_premise() {
+        let (sheets, steps) = walked(2, "W{0}{0} columns=2", "W{1}{}");
+        assert_eq!(sheets[2].nature, text::sheet("W{1}{}").nature);
+        assert!(!premises(2, &steps, &sheets));
+        let small = |numbers: &[i128]| numbers.iter().copied().map(Exact::Small).collect();
+        let row = Row {
+            numbers: vec![small(&[0, 0]), small(&[1])],
+            sides: vec![Side::Left],
+        };
+        let fault = violation(&steps, &sheets, row, &mut Counts::default());
+        let fault = fault.unwrap().expect("0 + 1 is in no list of column 1");
+        assert!(
+            fault.starts_with("node 2 column 1: Small(1) leaves"),
+            "{fault}"
+        );
     }
 
     /// Outside the premises there are counterexamples, and they are seen.

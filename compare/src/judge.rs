@@ -2,18 +2,25 @@
 
 use crate::guard::Expected;
 use crate::plans::is_unary;
-use oracle_list::form::{hex, is_range_subtract, POOL};
+use oracle_list::form::{hex, is_range_subtract, miscounted, MISCOUNTED, POOL};
 use oracle_list::sheet::{Sheet, LONGEST, TEXT};
 
 /// The original text's answer; the port's where the original has none, for Pool
 /// and for texts that are no UTF-8, and where it is not asked, for a range
-/// Subtract: there the library is held against the port alone.
+/// Subtract: there the library is held against the port alone. 29 is the oracle's
+/// own test wherever it is due, whoever answers otherwise.
 ///
 /// # Panics
 /// If the port refuses a range Subtract by a check that the original passes.
 pub fn answer(component: u32, node: u32, left: &[u8], right: &[u8], out_len: usize) -> Expected {
     if component == POOL || has_other_texts(component, left, right) {
-        return of_port(component, node, left, right, out_len);
+        let answer = of_port(component, node, left, right, out_len);
+        let refused = Expected {
+            code: MISCOUNTED,
+            bytes: Vec::new(),
+        };
+        let counted = miscounted(component, left, right, answer.code);
+        return counted.map_or(answer, |_| refused);
     }
     match oracle_original::asked(component, node, left, right, out_len) {
         Some(answer) => Expected {
@@ -74,6 +81,29 @@ mod tests {
         assert_eq!(subtract("W[1,2]*3", "W[1,2]").code, 18);
         assert_eq!(subtract("W[1,2]*3", "W[1,2] type=Float").code, 14);
         assert_eq!(subtract("W[1,2]*3", "F[1.0,2.0]").code, 17);
+    }
+
+    /// Where the original answers, and where the port does: Pool, other texts.
+    #[test]
+    fn lists_are_counted() {
+        let code = |component, left, right| {
+            let answer = answer(component, 0, &bytes(left), &bytes(right), 200);
+            assert!(answer.code == 0 || answer.bytes.is_empty());
+            answer.code
+        };
+        let two = "W{1}{2} columns=3";
+        assert_eq!(code(9, two, "empty"), 29);
+        assert_eq!(code(2, two, "B{1} columns=3"), 29);
+        assert_eq!(code(2, "F{1.0} columns=3", two), 19);
+        assert_eq!(code(2, two, "W[1,2] columns=3"), 0);
+        assert_eq!(code(10, two, "W{5} columns=3"), 29);
+        assert_eq!(code(10, "F{1.0} columns=3", two), 19);
+        assert_eq!(code(10, two, "W[1,2] columns=3"), 0);
+        let other = "T{\\ff}{\\fe}";
+        assert_eq!(code(2, other, "T{a}"), 29);
+        assert_eq!(code(2, "T{a}", other), 29);
+        assert_eq!(code(3, other, "T{a} type=Float"), 14);
+        assert_eq!(code(2, other, "T{a} columns=2"), 0);
     }
 
     #[test]

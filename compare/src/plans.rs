@@ -1,11 +1,13 @@
 //! Plans: drawn, answered by walking the oracle step by step, and compared. A
 //! step that the oracle has not, of Pool or over a text that is no UTF-8, and a
-//! range Subtract, which it answers by another rule, is taken by the port.
+//! range Subtract, which it answers by another rule, is taken by the port. 29 at a
+//! step is the oracle's own test, not the original's word.
 
 use crate::draw;
 use crate::judge;
 use crate::tally::Tally;
 use crate::Reply;
+use oracle_list::counts::Counts;
 use oracle_list::form::{hex, is_range_subtract, POOL, SUBTRACT};
 use oracle_list::generate;
 use oracle_list::random::Random;
@@ -18,13 +20,13 @@ pub const SLOT: usize = LONGEST;
 pub const MOST_NODES: usize = 32;
 pub const NO_NODE: u32 = 65_535;
 /// What may be refused at a step: 2, 3, 4, 25 and 27 cannot.
-pub const STEP_CODES: [u32; 22] = [
-    5, 6, 7, 8, 9, 10, 11, 12, 13, 14, 15, 16, 17, 18, 19, 20, 21, 22, 23, 24, 26, 28,
+pub const STEP_CODES: [u32; 23] = [
+    5, 6, 7, 8, 9, 10, 11, 12, 13, 14, 15, 16, 17, 18, 19, 20, 21, 22, 23, 24, 26, 28, 29,
 ];
 /// What a range Subtract may be refused with.
 pub const RANGE_CODES: [u32; 2] = [18, 24];
 /// What a step of Pool may be refused with.
-pub const POOL_CODES: [u32; 15] = [5, 6, 7, 8, 11, 12, 14, 17, 18, 19, 20, 21, 24, 26, 28];
+pub const POOL_CODES: [u32; 16] = [5, 6, 7, 8, 11, 12, 14, 17, 18, 19, 20, 21, 24, 26, 28, 29];
 pub const LEAF_CODES: [u32; 3] = [3, 4, 5];
 
 /// The components that a step is drawn from.
@@ -156,6 +158,16 @@ impl Draft {
         derived
             .into_iter()
             .any(|(step, sheet)| step.component == component && sheet[6] == nature)
+    }
+
+    /// What its accepted steps make of several category lists.
+    pub fn counts(&self) -> Counts {
+        let mut counts = Counts::default();
+        for (step, sheet) in self.steps.iter().zip(&self.sheets[self.leaves.len()..]) {
+            let (left, right) = (&self.sheets[step.left], &self.sheets[step.right]);
+            counts.count((step.component, left, right), 0, sheet);
+        }
+        counts
     }
 
     /// Adds well-formed steps without asking the judge.
@@ -467,8 +479,8 @@ fn after(work: &[u8], leaves: usize, derived: &[Vec<u8>]) -> Vec<u8> {
     after
 }
 
-/// Counts the steps of Pool, over texts, of Subtract over ranges and to ranges
-/// that were taken, and one that was refused.
+/// Counts the steps of Pool, over texts, over category lists, of Subtract over
+/// ranges and to ranges that were taken, and one that was refused.
 fn count_steps(tally: &mut Tally, request: &Request, wanted: &Expected) {
     let (leaves, steps) = parse(&request.plan).unwrap_or_default();
     let (code, node) = wanted.reply;
@@ -492,6 +504,7 @@ fn count_steps(tally: &mut Tally, request: &Request, wanted: &Expected) {
         );
         tally.count_texts(read, code, sheet);
         tally.count_subtract(read, code, sheet);
+        tally.count_lists(read, code, sheet);
         tally.count_range(step.component, sheet);
     }
 }
@@ -611,6 +624,13 @@ mod tests {
             "{tally}"
         );
         assert!(tally.ranges().infinite > 20, "{tally}");
+        let counts = tally.counts();
+        assert!(
+            !counts.sides.contains(&0) && !counts.kinds.contains(&0),
+            "{tally}"
+        );
+        assert!(counts.taken[0] > 100 && counts.unused > 3, "{tally}");
+        assert!(tally.listed() > 500, "{tally}");
     }
 
     #[test]

@@ -19,7 +19,7 @@ const LONGEST_LINE: usize = 9000;
 const FORM: &str = "\
 # Plan calls with the answers of the original text, walked step by step; a step that the original has not, of component
 # 10, Pool, or over a text that is no UTF-8, or that document 02 gives another answer, of Subtract over two ranges of one
-# kind, is the plain port's.
+# kind, is the plain port's. 29, which the original has not, is tested around it.
 # One a line, six fields separated by a blank: plan work_len leaves code value result
 #   plan      the plan's bytes in lower-case hex, - for none
 #   work_len  the length of the work buffer, in bytes
@@ -120,7 +120,7 @@ fn refused(
 }
 
 /// Accepted with a step of Pool to each nature that it can give, with a step of Add
-/// to texts, and with a range Subtract.
+/// to texts, with a range Subtract, and over several lists.
 fn derived(random: &mut Random, out: &mut String) {
     let natures = [
         (POOL, 0, "Pool to absent"),
@@ -134,17 +134,35 @@ fn derived(random: &mut Random, out: &mut String) {
         (SUBTRACT, 2, "Subtract to float range"),
     ];
     for (component, nature, name) in natures {
-        let _ = writeln!(out, "# accepted, {name}");
-        for _ in 0..4 {
-            let draw = |random: &mut Random| loop {
-                let nodes = random.between(3, 9) as usize;
-                let draft = plans::accepted(random, nodes);
-                if draft.derives(component, nature) {
-                    return draft.request();
-                }
-            };
-            push(random, out, draw, |code| code == 0);
-        }
+        accepted_with(random, out, name, |draft| draft.derives(component, nature));
+    }
+    // For columns that are not the operand's own; and such as 29 would refuse, beside a
+    // range or an absent nature, where nobody counts them.
+    accepted_with(random, out, "lists for the output's columns", |draft| {
+        draft.counts().taken[1] > 0
+    });
+    accepted_with(random, out, "lists that no step counts", |draft| {
+        draft.counts().unused > 0
+    });
+}
+
+/// Accepted, four that suit.
+fn accepted_with(
+    random: &mut Random,
+    out: &mut String,
+    name: &str,
+    suits: impl Fn(&Draft) -> bool,
+) {
+    let _ = writeln!(out, "# accepted, {name}");
+    for _ in 0..4 {
+        let draw = |random: &mut Random| loop {
+            let nodes = random.between(3, 9) as usize;
+            let draft = plans::accepted(random, nodes);
+            if suits(&draft) {
+                return draft.request();
+            }
+        };
+        push(random, out, draw, |code| code == 0);
     }
 }
 
@@ -331,5 +349,8 @@ mod tests {
             "{tally}"
         );
         assert!(tally.ranges().infinite >= 8, "{tally}");
+        let counts = tally.counts();
+        assert!(counts.sides.iter().sum::<usize>() >= 12, "{tally}");
+        assert!(counts.taken[1].min(counts.unused) >= 4, "{tally}");
     }
 }

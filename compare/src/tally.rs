@@ -2,6 +2,7 @@
 
 use crate::judge::has_other_texts;
 use crate::plans::is_unary;
+use oracle_list::counts::Counts;
 use oracle_list::form::{hex, is_range_subtract, POOL};
 use oracle_list::sheet::{Ends, Nature, Sheet, TEXT};
 use oracle_list::stats::NAMES;
@@ -9,8 +10,10 @@ use std::collections::BTreeMap;
 use std::fmt;
 
 const SHOWN: usize = 10;
-/// The place of a sheet's nature.
+/// Places in a sheet.
+const AT_LISTS: usize = 2;
 const AT_NATURE: usize = 6;
+const AT_COLUMNS: usize = 40;
 
 /// The numbers of the natures that Pool can give.
 const POOLED: [u8; 6] = [0, 1, 2, 3, 4, TEXT];
@@ -53,6 +56,9 @@ pub struct Tally {
     subtracts: BTreeMap<u32, usize>,
     subtracted: [usize; 2],
     ranges: Ranges,
+    counts: Counts,
+    /// Derived sheets that state categories.
+    listed: usize,
     shown: Vec<String>,
     pub differences: usize,
 }
@@ -143,6 +149,26 @@ impl Tally {
         }
     }
 
+    /// What a call makes of several category lists; `sheet` is what was accepted. 29
+    /// out of place is a difference, and so is a derived nature without an entry or a
+    /// list for each column: since document 02's S-5 there is none.
+    pub fn count_lists(
+        &mut self,
+        read @ (component, left, right): (u32, &[u8], &[u8]),
+        code: u32,
+        sheet: &[u8],
+    ) {
+        if !self.counts.count(read, code, sheet) {
+            let (left, right) = (hex(left), hex(right));
+            self.differ(|| format!("{code}, where 29 is out of place: {component} {left} {right}"));
+        }
+        let nature = sheet.get(AT_NATURE).copied().unwrap_or(0);
+        self.listed += usize::from(nature > 2);
+        if nature > 0 && sheet[AT_LISTS] != sheet[AT_COLUMNS] {
+            self.differ(|| format!("component {component} derives {}", hex(sheet)));
+        }
+    }
+
     pub fn differ(&mut self, text: impl FnOnce() -> String) {
         self.differences += 1;
         if self.shown.len() < SHOWN {
@@ -182,6 +208,15 @@ impl Tally {
 
     pub fn ranges(&self) -> &Ranges {
         &self.ranges
+    }
+
+    pub fn counts(&self) -> &Counts {
+        &self.counts
+    }
+
+    /// Derived sheets that state categories.
+    pub fn listed(&self) -> usize {
+        self.listed
     }
 }
 
@@ -252,6 +287,14 @@ impl fmt::Display for Tally {
         if self.ranges.of != [0; NAMES.len()] {
             writeln!(f, "{}", self.ranges)?;
         }
+        if self.counts != Counts::default() || self.listed > 0 {
+            let listed = self.listed;
+            writeln!(f, "{}", self.counts)?;
+            writeln!(
+                f,
+                "derived categories: {listed}, each with a list for each column"
+            )?;
+        }
         write!(
             f,
             "{} in all, {} differences",
@@ -271,6 +314,27 @@ mod tests {
         let mut tally = Tally::default();
         tally.count_range(3, &text::bytes(sheet));
         (tally.differences == 0, tally.ranges().infinite)
+    }
+
+    /// Whether an answer to Add is let pass.
+    fn passes(left: &str, right: &str, code: u32, sheet: &str) -> bool {
+        let mut tally = Tally::default();
+        let (left, right) = (text::bytes(left), text::bytes(right));
+        tally.count_lists((2, &left, &right), code, &text::bytes(sheet));
+        tally.differences == 0
+    }
+
+    #[test]
+    fn a_wrong_count_is_a_difference() {
+        let (two, one) = ("W{1}{2} columns=3", "W{1} columns=3");
+        assert!(passes(two, one, 29, "empty") && passes(two, one, 14, "empty"));
+        assert!(!passes(two, one, 0, "W{2}{3} columns=3"));
+        assert!(!passes(two, one, 21, "empty") && !passes(one, one, 29, "empty"));
+        assert!(passes(one, one, 0, "W{2}*3 columns=3"));
+        // A derived nature has an entry or a list for each column.
+        assert!(!passes(one, one, 0, "W{2} columns=3"));
+        assert!(!passes("W[1,2]", "W[1,2]", 0, "W[2,4]*2"));
+        assert!(passes(two, "W[1,2] columns=3", 0, "absent columns=3"));
     }
 
     #[test]

@@ -1,8 +1,9 @@
-//! Leaves that meet demand 3's premises, and rows inside them.
+//! Leaves that meet demand 3's premises, some with another count of category lists
+//! than these ask for, and rows inside them.
 
 use crate::exact::Exact;
 use oracle_list::random::Random;
-use oracle_list::sheet::{Ends, Group, Key, Nature, Sheet};
+use oracle_list::sheet::{Ends, Group, Key, Nature, Sheet, MOST_LISTS};
 
 const EDGES: [i64; 10] = [
     i64::MIN,
@@ -27,6 +28,9 @@ pub struct Kin {
     c_stability: u32,
     groups: Vec<Group>,
     zone: Zone,
+    /// Category leaves in a hundred whose lists are neither one nor one for each
+    /// column: few plans have such leaves, since most are outside the premises then.
+    odd: usize,
 }
 
 /// Where most numbers of a plan lie.
@@ -60,6 +64,7 @@ impl Kin {
                 Zone::Edges,
                 Zone::Any,
             ]),
+            odd: random.pick(&[0, 0, 0, 0, 0, 0, 40, 80]),
         }
     }
 
@@ -67,7 +72,7 @@ impl Kin {
         let columns = if random.percent(25) { 1 } else { self.columns };
         let lists = if random.percent(50) { 1 } else { columns };
         Sheet {
-            nature: self.nature(random, lists as usize),
+            nature: self.nature(random, columns as usize, lists as usize),
             data_type: if random.percent(6) {
                 random.below(5) as u8
             } else {
@@ -93,16 +98,35 @@ impl Kin {
         }
     }
 
-    fn nature(&self, random: &mut Random, lists: usize) -> Nature {
-        if random.percent(60) {
+    fn nature(&self, random: &mut Random, columns: usize, lists: usize) -> Nature {
+        // Lists beside lists are what 29 counts.
+        let ranges = if self.odd > 0 { 35 } else { 60 };
+        if random.percent(ranges) {
             return Nature::WholeRange((0..lists).map(|_| self.ends(random)).collect());
         }
+        let lists = match random.percent(self.odd) {
+            true => self.odd_count(random, columns),
+            false => lists,
+        };
         let most = if lists > 3 { 3 } else { 6 };
         let list = |random: &mut Random| {
             let count = 1 + random.below(most);
             (0..count).map(|_| self.number(random)).collect()
         };
         Nature::WholeLists((0..lists).map(|_| list(random)).collect())
+    }
+
+    /// A count of lists that is neither one nor the columns'; often the plan's own
+    /// column count, which goes with other leaves' columns.
+    fn odd_count(&self, random: &mut Random, columns: usize) -> usize {
+        let own = self.columns as usize;
+        if own != 1 && own != columns && random.percent(60) {
+            return own;
+        }
+        let counts = [2, 3, 4, columns + 1];
+        let fits = |count: &usize| *count != columns && *count <= MOST_LISTS;
+        let counts: Vec<usize> = counts.into_iter().filter(fits).collect();
+        random.pick(&counts)
     }
 
     fn ends(&self, random: &mut Random) -> Ends<i64> {

@@ -142,8 +142,9 @@ fn refused(code: u32, mark: Mark) -> bool {
 }
 
 /// Generated calls whose answer is wanted. Texts have a row of their own, and range
-/// Subtracts, which the original answers by other ends, have none: without them
-/// all ways agree, and so does a library from before document 02's S-2 and S-4.
+/// Subtracts and lists that 29 refuses, which the original answers otherwise, have
+/// none: without them all ways agree, and so does a library from before document
+/// 02's S-2, S-4 and S-5.
 fn drawn(wanted: impl Fn(u32, Mark) -> bool) -> Vec<Call> {
     let mut random = Random::new(SEED);
     let mut calls = Vec::new();
