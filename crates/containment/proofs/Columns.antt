@@ -1,12 +1,11 @@
 -- A rule taken column by column: entry j of the answer is the rule's value at the operands' entries for column j. Assumes nothing.
 use mathlib.Core.Path.{_≡_, refl, sym, ap, subst, _∙_}
-use mathlib.Core.Bool.{Bool, true, false, not, _||_}
+use mathlib.Core.Bool.{false, not}
 use mathlib.Core.List.{List, [], _∷_}
-use mathlib.Core.Logic.{inl, inr, ⊎-elim}
+use mathlib.Core.Logic.{⊎-elim}
 use mathlib.Core.Option.{Option, some}
 use Prim.Native.Nat.{ℕ, zero, suc, _<_}
 use native.Mathlib.Omega.{arith}
-use lib.Dec.{T, eqb}
 use lib.ListN.{length, getElem?, replicate, length-replicate}
 use borrow.Author.Tests.{not-false}
 use Rattle.numbers.specs.Result.{Result, ok, andThen, check, checked}

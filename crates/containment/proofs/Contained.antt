@@ -36,7 +36,6 @@ use Rattle.containment.specs.Demand.{WholeNature, Suits, Premises, Insid
 use Rattle.containment.specs.Good.{Fitting, Good, stepOf}
 use Rattle.containment.proofs.Nodes.{columns-are, good-made}
 use Rattle.containment.proofs.Steps.{step-good}
-use Rattle.containment.proofs.Slots.{sheetAt}
 use Rattle.containment.proofs.Accepted.{Accepted, plan-made, sheet-leaf, sheet-after}
 use Rattle.containment.proofs.Counted.{leaf-whole}
 

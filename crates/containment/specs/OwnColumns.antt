@@ -5,12 +5,12 @@ use mathlib.Core.Bool.{true, cond}
 use mathlib.Core.List.{List, [], _∷_}
 use mathlib.Core.Option.{some}
 use Prim.Native.Nat.{ℕ}
-use lib.IntN.{ℤ, pos}
+use lib.IntN.{pos}
 use lib.Dec.{eqb}
 use Rattle.base.specs.Form.{narrow}
 use Rattle.base.specs.Sheet.{wholeLists, Sheet, isLists}
 use Rattle.shape.specs.Shape.{columnsOf}
-use Rattle.step_laws.specs.Examples.{Plan, work, HoldsPlan}
+use Rattle.step_laws.specs.Examples.{Plan, work}
 use Rattle.calls.specs.Walk.{plan}
 use Rattle.containment.specs.Exact.{Row, fromLeft, resultAt}
 use Rattle.containment.specs.Demand.{Keeps, StatesColumns, WholeNature, ColumnsMatch, Inside, sheetOf}

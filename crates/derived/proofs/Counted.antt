@@ -54,20 +54,20 @@ module _ (columns : ℕ) where
   abbrev Spreading : {X : Type 0} → List X → Type 0
   Spreading xs = spreads columns (length xs) ≡ true
 
-  repeated-full : {X : Type 0} (xs : List X) → Spreading xs → Full (repeated columns xs)
+  spread-full : {X : Type 0} (xs : List X) → Spreading xs → Full (repeated columns xs)
   unfolding repeated
-  repeated-full [] p = ⊎-elim (λ h. absurd (omega arith)) (λ h. h) (one-or-full columns 0 p)
-  repeated-full (x ∷ []) p = length-replicate columns x
-  repeated-full (x ∷ y ∷ xs) p = ⊎-elim (λ h. absurd (omega arith)) (λ h. h) (one-or-full columns (suc (suc (length xs))) p)
+  spread-full [] p = ⊎-elim (λ h. absurd (omega arith)) (λ h. h) (one-or-full columns 0 p)
+  spread-full (x ∷ []) p = length-replicate columns x
+  spread-full (x ∷ y ∷ xs) p = ⊎-elim (λ h. absurd (omega arith)) (λ h. h) (one-or-full columns (suc (suc (length xs))) p)
 
   module _ {X Y : Type 0} where
     pair-full : (rule : X → X → Result Y) (xs ys : List X) → Spreading xs → Spreading ys → IfOk Full (eachPair rule (repeated columns xs) (repeated columns ys))
     pair-full rule xs ys p q =
         value-known Full (eachPair rule (repeated columns xs) (repeated columns ys))
-        (λ zs e. omega (arith, pair-length rule (repeated columns xs) (repeated columns ys) e, repeated-full xs p, repeated-full ys q))
+        (λ zs e. omega (arith, pair-length rule (repeated columns xs) (repeated columns ys) e, spread-full xs p, spread-full ys q))
 
     each-full : (rule : X → Result Y) (xs : List X) → Spreading xs → IfOk Full (each rule (repeated columns xs))
-    each-full rule xs p = value-known Full (each rule (repeated columns xs)) (λ zs e. each-length rule (repeated columns xs) e ∙ repeated-full xs p)
+    each-full rule xs p = value-known Full (each rule (repeated columns xs)) (λ zs e. each-length rule (repeated columns xs) e ∙ spread-full xs p)
 
   module _ {X : Type 0} (same : X → X → Bool) where
     lists-full : (op : List X → List X → Result (List X)) (ls ms : List (List X)) → Spreading ls × Spreading ms

@@ -11,7 +11,7 @@ module _ {ℓ} {X : Type ℓ} (columns : ℕ) where
   unfolding repeated
   repeated-at l j d h = getD-replicate columns j l d h
 
-  -- other counts stay
+  -- another count than one stays
   pub repeated-other : (ls : List X) → (length ls ≡ 1 → ⊥) → repeated columns ls ≡ ls
   unfolding repeated
   repeated-other [] h = refl
