@@ -8,7 +8,7 @@ use oracle_list::sheet::{Sheet, LONGEST, TEXT};
 /// The original text's answer; the port's where the original has none, for Pool
 /// and for texts that are no UTF-8, and where it is not asked, for a range
 /// Subtract: there the library is held against the port alone. 29 is the oracle's
-/// own test wherever it is due, whoever answers otherwise.
+/// own test wherever it is due, also where the port answers.
 ///
 /// # Panics
 /// If the port refuses a range Subtract by a check that the original passes.

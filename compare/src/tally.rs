@@ -4,16 +4,12 @@ use crate::judge::has_other_texts;
 use crate::plans::is_unary;
 use oracle_list::counts::Counts;
 use oracle_list::form::{hex, is_range_subtract, POOL};
-use oracle_list::sheet::{Ends, Nature, Sheet, TEXT};
+use oracle_list::sheet::{Ends, Nature, Sheet, AT_COLUMNS, AT_LISTS, AT_NATURE, TEXT};
 use oracle_list::stats::NAMES;
 use std::collections::BTreeMap;
 use std::fmt;
 
 const SHOWN: usize = 10;
-/// Places in a sheet.
-const AT_LISTS: usize = 2;
-const AT_NATURE: usize = 6;
-const AT_COLUMNS: usize = 40;
 
 /// The numbers of the natures that Pool can give.
 const POOLED: [u8; 6] = [0, 1, 2, 3, 4, TEXT];
@@ -288,12 +284,8 @@ impl fmt::Display for Tally {
             writeln!(f, "{}", self.ranges)?;
         }
         if self.counts != Counts::default() || self.listed > 0 {
-            let listed = self.listed;
             writeln!(f, "{}", self.counts)?;
-            writeln!(
-                f,
-                "derived categories: {listed}, each with a list for each column"
-            )?;
+            writeln!(f, "derived categories: {}", self.listed)?;
         }
         write!(
             f,

@@ -3,7 +3,7 @@
 use std::error::Error;
 use std::fmt;
 
-/// Why a call said no. The discriminant is document 01's number.
+/// Why a call said no. The discriminant is its number in documents 01 and 02.
 #[derive(Clone, Copy, Debug, PartialEq, Eq, Hash, PartialOrd, Ord)]
 pub enum Refusal {
     /// 1: The plan is malformed.

@@ -54,16 +54,13 @@ textListsOf (boolLists ls) = []
 textListsOf (floatLists ls) = []
 textListsOf (textLists ls) = ls
 
--- 19: "Float categories are to be combined or mapped"; 20: "A category operand has no lists"
-abbrev pub isFloatLists : Nature → Bool
-isFloatLists k = eqb (natureNumber k) floatListsNature
+-- of an operand, by the output's columns, its nature's number and how many lists it has. 19: "Float categories are to be combined or mapped"; 20: "A category
+-- operand has no lists"; 29, 02, S-5: "the number of category lists is neither one nor the output's column count, directly after 20"
+abbrev pub listChecksOf : ℕ → ℕ → ℕ → List Check
+listChecksOf columns nature lists = check 19 (eqb nature floatListsNature) ∷ check 20 (eqb lists 0) ∷ check 29 (not (spreads columns lists)) ∷ []
 
-abbrev pub noLists : Nature → Bool
-noLists k = eqb (entryCount k) 0
-
--- of an operand, by the output's columns. 29, 02, S-5: "the number of category lists is neither one nor the output's column count, directly after 20"
 abbrev pub listChecks : ℕ → Nature → List Check
-listChecks columns k = check 19 (isFloatLists k) ∷ check 20 (noLists k) ∷ check 29 (not (spreads columns (entryCount k))) ∷ []
+listChecks columns k = listChecksOf columns (natureNumber k) (entryCount k)
 
 -- 02, S-5: "19, 20 and 29 finish on left before right"; 21: "The category kinds differ"
 abbrev pub bothListChecks : ℕ → Nature → Nature → List Check

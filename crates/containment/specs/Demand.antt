@@ -87,7 +87,7 @@ module _ (p : List ℕ) (sheet : ℕ → Sheet) (leaf k : ℕ) where
     pub right : isLists (sheet (rightOf p k) .nature) ≡ true
     pub own-columns : sheet k .fields .columns ≡ sheet leaf .fields .columns
 
-  -- Abs and Negative map left's, over left's columns; 2 to 5 and Pool combine. (Of two category operands Modulo, Log and Power make nothing)
+  -- Abs and Negative map left's, over left's columns; 2 to 5 and Pool combine. (Modulo, Log and Power accept no two category operands)
   abbrev pub SpreadsBy : Family → Type 0
   SpreadsBy Fam.Unary = leftOf p k ≡ leaf
   SpreadsBy Fam.Pair = Combines
@@ -98,7 +98,8 @@ module _ (p : List ℕ) (sheet : ℕ → Sheet) (leaf k : ℕ) where
   Spreads N.Unlisted = ⊥
   Spreads (N.Is c) = SpreadsBy (familyOf c)
 
--- 02, S-5: the containment rule "drops it for a leaf's categories where some step" does so: there 29 has counted their lists
+-- 02, S-5: the containment rule "drops it for a leaf's categories where some step maps them, or combines them with categories, ..": 29 has counted the lists
+-- there
 pub record Counted (p : List ℕ) (sheet : ℕ → Sheet) (leaf : ℕ) : Type 0 where
   pub lists : List (List ℤ)
   pub holds : sheet leaf .nature ≡ wholeLists lists

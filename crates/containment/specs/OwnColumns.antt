@@ -9,7 +9,11 @@ use lib.IntN.{pos}
 use lib.Dec.{eqb}
 use Rattle.base.specs.Form.{narrow}
 use Rattle.base.specs.Sheet.{wholeLists, Sheet, isLists}
+use Rattle.base.specs.Components.{componentOf}
+use Rattle.base.specs.declared.Component.the-variants as C
+use Rattle.base.specs.declared.Numbered.the-variants as N
 use Rattle.shape.specs.Shape.{columnsOf}
+use Rattle.plan_form.specs.Form.{componentNumber, leftOf, rightOf}
 use Rattle.step_laws.specs.Examples.{Plan, work}
 use Rattle.calls.specs.Walk.{plan}
 use Rattle.containment.specs.Exact.{Row, fromLeft, resultAt}
@@ -49,10 +53,12 @@ pub record Outside (sheet : ℕ → Sheet) : Type 0 where
   -- .. of node 1, whose categories node 2 combines with categories, over two columns and not over its own one
   pub second-columns : sheet 1 .fields .columns ≡ some 1
   pub second-nature : sheet 1 .nature ≡ wholeLists ((pos 1 ∷ []) ∷ [] ∷ [])
+  pub reads : (leftOf sumPlan 2 ≡ 0) × (rightOf sumPlan 2 ≡ 1)
   pub with-categories : isLists (sheet 0 .nature) ≡ true
   pub other-columns : sheet 2 .fields .columns ≡ some 2
   -- .. and of the step
   pub operand-columns : ColumnsMatch (sheet 0) (sheet 1)
+  pub component : componentOf (componentNumber sumPlan 2) ≡ N.Is C.Add
   -- the row is inside, and column 1 of node 2 has a result that does not keep to its sheet
   pub inside : Inside sumPlan sheet sumRow
   pub result : resultAt sumPlan sheet sumRow 2 1 ≡ some (pos 1)

@@ -98,8 +98,8 @@ abbrev BothSpread : ℕ → Nature → Nature → Type 0
 BothSpread columns l r = Spread columns l × Spread columns r
 
 -- absent, or an entry or a list for each column
-abbrev Counted : ℕ → Nature → Type 0
-Counted columns k = (k ≡ absent) ⊎ (entryCount k ≡ columns)
+abbrev PerColumn : ℕ → Nature → Type 0
+PerColumn columns k = (k ≡ absent) ⊎ (entryCount k ≡ columns)
 
 both-spread : (columns : ℕ) (l r : Nature) → Passing (bothListChecks columns l r) → BothSpread columns l r
 both-spread columns l r p = (not-false _ (p .1 .1 .0), not-false _ (p .1 .1 .1 .1 .1 .0))
@@ -126,10 +126,10 @@ kind-spread columns l r p e =
 
 module _ (c : Component) (type columns : ℕ) where
   nature-counted : {X : Type 0} (to : List X → Nature) → ((xs : List X) → entryCount (to xs) ≡ length xs) → (g : Result (List X)) → IfOk (Full columns) g
-      → IfOk (Counted columns) (andThen g (λ xs. ok (to xs)))
-  nature-counted to h g full = value-then (Full columns) (Counted columns) g _ full (λ xs e. inr (h xs ∙ e))
+      → IfOk (PerColumn columns) (andThen g (λ xs. ok (to xs)))
+  nature-counted to h g full = value-then (Full columns) (PerColumn columns) g _ full (λ xs e. inr (h xs ∙ e))
 
-  united-counted : (l r : Nature) → Passing (bothListChecks columns l r) → IfOk (Counted columns) (unitedNature columns l r)
+  united-counted : (l r : Nature) → Passing (bothListChecks columns l r) → IfOk (PerColumn columns) (unitedNature columns l r)
   unfolding united
   united-counted absent r p = inl refl
   united-counted (wholeRange rs) r p = inl refl
@@ -145,58 +145,58 @@ module _ (c : Component) (type columns : ℕ) where
       nature-counted textLists (λ ns. refl) (united sameText columns ls (textListsOf r))
       (lists-full columns sameText (union sameText) ls (textListsOf r) (kind-spread columns (textLists ls) r p (own-lists r .2)))
 
-  limited-counted : (limit : ℕ) (g : Result (List (List ℤ))) → IfOk (Full columns) g → IfOk (Counted columns) (limited limit g)
-  limited-counted limit g full = value-then (Full columns) (Counted columns) g _ full (λ ns e. kept-to (Counted columns) limit (wholeLists ns) (inr e))
+  limited-counted : (limit : ℕ) (g : Result (List (List ℤ))) → IfOk (Full columns) g → IfOk (PerColumn columns) (limited limit g)
+  limited-counted limit g full = value-then (Full columns) (PerColumn columns) g _ full (λ ns e. kept-to (PerColumn columns) limit (wholeLists ns) (inr e))
 
-  combined-counted : (F : Form) (l r : Nature) → Passing (bothListChecks columns l r) → IfOk (Counted columns) (combinedNature F c type columns l r)
+  combined-counted : (F : Form) (l r : Nature) → Passing (bothListChecks columns l r) → IfOk (PerColumn columns) (combinedNature F c type columns l r)
   unfolding combined
   combined-counted F absent r p = tt
   combined-counted F (wholeRange rs) r p = tt
   combined-counted F (floatRange rs) r p = tt
   combined-counted F (wholeLists ls) r p =
-      ruled-value (Counted columns) (categoryRule c type) _
+      ruled-value (PerColumn columns) (categoryRule c type) _
       (λ rule.
       limited-counted (F .categoryLimit) (combined eqZ rule columns ls (wholeListsOf r))
       (lists-full columns eqZ (product eqZ rule) ls (wholeListsOf r) (kind-spread columns (wholeLists ls) r p (own-lists r .0))))
   combined-counted F (boolLists ls) r p = tt
   combined-counted F (floatLists ls) r p = tt
   combined-counted F (textLists ls) r p =
-      ruled-value (Counted columns) (textRule c) _
+      ruled-value (PerColumn columns) (textRule c) _
       (λ rule.
-      value-then (Full columns) (Counted columns) (combined sameText rule columns ls (textListsOf r)) _
+      value-then (Full columns) (PerColumn columns) (combined sameText rule columns ls (textListsOf r)) _
       (lists-full columns sameText (product sameText rule) ls (textListsOf r) (kind-spread columns (textLists ls) r p (own-lists r .2)))
-      (λ ns e. kept-value (Counted columns) F (textLists ns) (inr e)))
+      (λ ns e. kept-value (PerColumn columns) F (textLists ns) (inr e)))
 
   -- two natures, of which two of categories are counted together
-  two-counted : (together : Nature → Nature → Result Nature) (l r : Nature) → IfOk (Counted columns) (together l r) → IfOk (Counted columns) (twoNatures c type columns together l r)
+  two-counted : (together : Nature → Nature → Result Nature) (l r : Nature) → IfOk (PerColumn columns) (together l r) → IfOk (PerColumn columns) (twoNatures c type columns together l r)
   two-counted together l r h =
-      two-natures (λ g. IfOk (Counted columns) g) c type columns together (inl refl) tt l r
+      two-natures (λ g. IfOk (PerColumn columns) g) c type columns together (inl refl) tt l r
       (λ xs ys e f. nature-counted wholeRange (λ zs. refl) (rangePair (wholeRule c type) columns xs ys) (range-full columns (wholeRule c type) xs ys))
       (λ xs ys e f. nature-counted floatRange (λ zs. refl) (rangePair (endRule float c) columns xs ys) (range-full columns (endRule float c) xs ys))
       h
 
-  binary-counted : (F : Form) (l r : Nature) → IfOk (Counted columns) (binaryNature F c type columns l r)
+  binary-counted : (F : Form) (l r : Nature) → IfOk (PerColumn columns) (binaryNature F c type columns l r)
   unfolding listsPair
   binary-counted F l r =
-      two-counted (listsPair F c type columns) l r (value-passed (Counted columns) (bothListChecks columns l r) _ (λ passing. combined-counted F l r passing))
+      two-counted (listsPair F c type columns) l r (value-passed (PerColumn columns) (bothListChecks columns l r) _ (λ passing. combined-counted F l r passing))
 
-  pool-counted : (l r : Nature) → IfOk (Counted columns) (poolNature c type columns l r)
+  pool-counted : (l r : Nature) → IfOk (PerColumn columns) (poolNature c type columns l r)
   unfolding listsUnited
-  pool-counted l r = two-counted (listsUnited columns) l r (value-passed (Counted columns) (bothListChecks columns l r) _ (λ passing. united-counted l r passing))
+  pool-counted l r = two-counted (listsUnited columns) l r (value-passed (PerColumn columns) (bothListChecks columns l r) _ (λ passing. united-counted l r passing))
 
-  unary-counted : (limit : ℕ) (l : Nature) → IfOk (Counted columns) (unaryNature limit c type columns l)
+  unary-counted : (limit : ℕ) (l : Nature) → IfOk (PerColumn columns) (unaryNature limit c type columns l)
   unfolding unaryNature listsAlone mapped
   unary-counted limit absent = inl refl
   unary-counted limit (wholeRange xs) = nature-counted wholeRange (λ zs. refl) (rangeAlone (endRule whole c) columns xs) (alone-full columns (endRule whole c) xs)
   unary-counted limit (floatRange xs) = nature-counted floatRange (λ zs. refl) (rangeAlone (endRule float c) columns xs) (alone-full columns (endRule float c) xs)
   unary-counted limit (wholeLists ls) =
-      value-passed (Counted columns) (listChecks columns (wholeLists ls)) _
+      value-passed (PerColumn columns) (listChecks columns (wholeLists ls)) _
       (λ passing.
-      ruled-value (Counted columns) (categoryRule c type) _
+      ruled-value (PerColumn columns) (categoryRule c type) _
       (λ rule. limited-counted limit (mapped eqZ rule columns ls) (maps-full columns eqZ (each (λ a. rule a a)) ls (not-false _ (passing .1 .1 .0)))))
-  unary-counted limit (boolLists ls) = value-passed (Counted columns) (listChecks columns (boolLists ls)) _ (λ passing. tt)
-  unary-counted limit (floatLists ls) = value-passed (Counted columns) (listChecks columns (floatLists ls)) _ (λ passing. tt)
-  unary-counted limit (textLists ls) = value-passed (Counted columns) (listChecks columns (textLists ls)) _ (λ passing. tt)
+  unary-counted limit (boolLists ls) = value-passed (PerColumn columns) (listChecks columns (boolLists ls)) _ (λ passing. tt)
+  unary-counted limit (floatLists ls) = value-passed (PerColumn columns) (listChecks columns (floatLists ls)) _ (λ passing. tt)
+  unary-counted limit (textLists ls) = value-passed (PerColumn columns) (listChecks columns (textLists ls)) _ (λ passing. tt)
 
 -- ---- operands, whose lists 29 has counted
 
@@ -236,10 +236,10 @@ module _ (F : Form) (c : Component) (l r s : Sheet) where
 
   pub derived-counted : derive F c l r ≡ ok s → (s .nature ≡ absent) ⊎ (s .fields .columns ≡ some (entryCount (s .nature)))
   derived-counted e =
-      let h = of-derived Counted (go (familyOf c)) e in
+      let h = of-derived PerColumn (go (familyOf c)) e in
       ⊎-elim (λ a. inl a) (λ a. inr (h .0 ∙ ap some (sym a))) (h .1)
     where
-      go : (f : Family) (columns : ℕ) → IfOk (Counted columns) (natureBy F c f columns l r)
+      go : (f : Family) (columns : ℕ) → IfOk (PerColumn columns) (natureBy F c f columns l r)
       go Fam.Unary columns = unary-counted c (l .fields .dataType) columns (F .categoryLimit) (l .nature)
       go Fam.Pair columns = binary-counted c (l .fields .dataType) columns F (l .nature) (r .nature)
       go Fam.Copy columns = binary-counted c (l .fields .dataType) columns F (l .nature) (r .nature)

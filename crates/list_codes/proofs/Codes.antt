@@ -14,7 +14,6 @@ use lib.Dec.{eqb}
 use borrow.Author.Tests.{eqb-true, eqb-false, ne-eqb, not-false}
 use Rattle.numbers.specs.Result.{refused, check, firstFailing}
 use Rattle.utilities.specs.Lists.{every}
-use Rattle.utilities.specs.Columns.{spreads}
 use Rattle.base.specs.Form.{Form, byteAt, natureAt, isRangeNature, listCount, wholeListsNature, floatListsNature}
 use Rattle.base.specs.Sheet.{Nature}
 use Rattle.base.specs.Decode.{natureIn}
@@ -25,7 +24,7 @@ use Rattle.category_lists.specs.Columnwise.{Listed}
 use Rattle.orders.specs.Parts.{next}
 use Rattle.orders.proofs.Refusals.{Numbered, first-append, checked-passes, checked-refuses}
 use Rattle.orders.proofs.Passing.{Passing, all-pass, pass-parts}
-use Rattle.calls.specs.Natures.{isFloatLists, noLists, listChecks, bothListChecks, unitedNature, listsUnited, combinedNature, listsPair}
+use Rattle.calls.specs.Natures.{listChecksOf, listChecks, bothListChecks, unitedNature, listsUnited, combinedNature, listsPair}
 use Rattle.list_codes.specs.Code.{Lists}
 use Rattle.list_codes.proofs.Numbers.{yes-no, number-of, count-of}
 
@@ -53,19 +52,15 @@ both-code columns l r =
 
 -- ---- an operand
 
--- the code of an operand's nature byte and list count
-abbrev pub codeFrom : ℕ → ℕ → ℕ → ℕ
-codeFrom columns nature n = firstFailing (check 19 (eqb nature floatListsNature) ∷ check 20 (eqb n 0) ∷ check 29 (not (spreads columns n)) ∷ [])
-
-pub code-is : {F : Form} {s : List ℕ} → Lists F s → (columns : ℕ) {n k : ℕ} → n ≡ listCount F s → k ≡ codeFrom columns (byteAt F natureAt s) n
+pub code-is : {F : Form} {s : List ℕ} → Lists F s → (columns : ℕ) {n k : ℕ} → n ≡ listCount F s → k ≡ firstFailing (listChecksOf columns (byteAt F natureAt s) n)
     → k ≡ firstFailing (listChecks columns (natureIn F s))
-code-is {F} {s} l columns e h = h ∙ ap₂ (codeFrom columns) (sym (number-of F s (l .read))) (e ∙ sym (count-of F s l))
+code-is {F} {s} l columns e h = h ∙ ap₂ (λ (m n : ℕ). firstFailing (listChecksOf columns m n)) (sym (number-of F s (l .read))) (e ∙ sym (count-of F s l))
 
 -- categories that 19 and 20 pass
 pub record Fine (F : Form) (s : List ℕ) : Type 0 where
   pub lists : Lists F s
-  pub no-float : isFloatLists (natureIn F s) ≡ false
-  pub some-lists : noLists (natureIn F s) ≡ false
+  pub no-float : eqb (natureNumber (natureIn F s)) floatListsNature ≡ false
+  pub some-lists : eqb (entryCount (natureIn F s)) 0 ≡ false
 
 passing-fine : {F : Form} {s : List ℕ} → Lists F s → (columns : ℕ) → Passing (listChecks columns (natureIn F s)) → Fine F s
 passing-fine l columns p = record { lists = l; no-float = p .0; some-lists = p .1 .0 }
@@ -107,7 +102,7 @@ module _ {F : Form} {s : List ℕ} (f : Fine F s) where
       go : (n : ℕ) → (n ≡ 0 → ⊥) → 0 < n
       go n h = omega (arith, h)
 
--- two operands that 19 to 21 pass
+-- two operands that 19, 20, 29 and 21 pass
 pub record Joint (F : Form) (left right : List ℕ) : Type 0 where
   pub left-fine : Fine F left
   pub right-fine : Fine F right

@@ -5,20 +5,16 @@ use base::form;
 use base::form::Form;
 use base::refusals;
 ghost use mathlib.Core.Path.{_≡_};
-ghost use mathlib.Core.Bool.{not};
-ghost use mathlib.Core.List.{[], _∷_};
-ghost use lib.Dec.{eqb};
-ghost use Rattle.numbers.specs.Result.{check, firstFailing};
-ghost use Rattle.utilities.specs.Columns.{spreads};
-ghost use Rattle.base.specs.Form.{formOf, floatListsNature};
+ghost use Rattle.numbers.specs.Result.{firstFailing};
+ghost use Rattle.base.specs.Form.{formOf};
 ghost use Rattle.base.specs.Components.{familyOf};
 ghost use Rattle.base.specs.Decode.{natureIn};
-ghost use Rattle.calls.specs.Natures.{bothListChecks};
+ghost use Rattle.calls.specs.Natures.{listChecksOf, bothListChecks};
 ghost use Rattle.list_codes.specs.Code.{Lists, hasRule, joins};
 
 // 19, 20 and 29 of one category operand, by the output's columns.
 pub fn lists_code(columns: usize, nature: u8, lists: usize) -> u32
-    ensures { λ r. ⌜ r ≡ firstFailing (check 19 (eqb nature floatListsNature) ∷ check 20 (eqb lists 0) ∷ check 29 (not (spreads columns lists)) ∷ []) ⌝ }
+    ensures { λ r. ⌜ r ≡ firstFailing (listChecksOf columns nature lists) ⌝ }
 {
     if nature == form::FLOAT_LISTS {
         return refusals::FLOAT_CATEGORIES;

@@ -1,4 +1,5 @@
--- The order of the checks, one list for each family of components. 01: "Checks 3 to 5 finish on left before right; so do 6 and 7, and 19 and 20".
+-- The order of the checks, one list for each family of components. 01: "Checks 3 to 5 finish on left before right; so do 6 and 7,
+-- and 19 and 20"; 02, S-5: "19, 20 and 29 finish on left before right".
 use mathlib.Core.Bool.{Bool, false, cond, not, _&&_, _||_}
 use mathlib.Core.List.{List, [], _∷_, _++_}
 use mathlib.Core.Option.{Option, none, some}
@@ -55,7 +56,7 @@ module _ (l r : Sheet) where
       ∷ check 14 (not (eqb (l .fields .dataType) (r .fields .dataType)))
       ∷ []
 
-  -- 01: "Components 2 to 5 check in list order"; 17 to 26 follow, and 28
+  -- 01: "Components 2 to 5 check in list order"; 17 to 26 follow, with 29 behind 20, and 28
   abbrev pub pairChecks : List Check
   pairChecks =
       operandChecks (l .fields)
@@ -70,7 +71,7 @@ module _ (l r : Sheet) where
       ∷ check 14 (not (eqb (l .fields .dataType) (r .fields .dataType)))
       ∷ []
 
-  -- 02, S-1: "It checks 6, 7, 8, 11, 12 .., 14 .., then 17 to 21, 24, 26"; S-2: 28 "directly after 26"
+  -- 02, S-1: "It checks 6, 7, 8, 11, 12 .., 14 .., then 17 to 21, 24, 26"; S-2: 28 "directly after 26"; S-5: 29 "directly after 20"
   abbrev pub poolChecks : List Check
   poolChecks =
       operandChecks (l .fields)
@@ -128,10 +129,10 @@ boundChecks C.Power l r = powerChecks l r
 boundChecks C.Negative l r = []
 boundChecks C.Pool l r = []
 
--- 01: "Modulo, Log and Power check 6, 7, 14, 15, 16, 11, then 17 to 26, then 8"; for 11 "only left's is read"
+-- 01: "Modulo, Log and Power check 6, 7, 14, 15, 16, 11, then 17 to 26, then 8" (29 behind 20: 02, S-5); for 11 "only left's is read"
 abbrev pub copyChecks : Component → Sheet → Sheet → List Check
 copyChecks c l r = operandChecks (l .fields) ++ operandChecks (r .fields) ++ boundChecks c l r ++ (check 11 (columnsAbsent (l .fields)) ∷ [])
 
--- 01: "Abs and Negative check 6, 11, then 18 to 26"
+-- 01: "Abs and Negative check 6, 11, then 18 to 26" (29 behind 20: 02, S-5)
 abbrev pub unaryChecks : Fields → List Check
 unaryChecks x = check 6 (aggregated x) ∷ check 11 (columnsAbsent x) ∷ []

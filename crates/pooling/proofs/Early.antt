@@ -1,5 +1,5 @@
--- Pool's nature is refused by 17 to 21 and 29 alone: by what comes before the rows' 24, and not by 26 or 28, which come behind.
---     Early          a value, or a refusal by one of the first
+-- Pool's nature is never refused by 26 or 28, which come behind the rows' 24.
+--     Early          a value, or a refusal that does not come behind the rows
 --     pool-early     Pool's nature
 -- Assumes nothing.
 use mathlib.Core.Path.{_≡_, refl, sym, ap, subst, _∙_}
@@ -28,7 +28,7 @@ use Rattle.category_lists.specs.Categories.{sameText, union, united}
 use Rattle.calls.specs.Natures.{wholeListsOf, boolListsOf, textListsOf, bothListChecks, unitedNature, listsUnited, wholeRangeWith, floatRangeWith, listsWith, twoNatures, poolNature}
 use Rattle.pool_fields.specs.Code.{late}
 
--- a value, or another refusal
+-- a value, or a refusal that does not come behind the rows
 abbrev pub Early : {X : Type 0} → Result X → Type 0
 Early (ok x) = Unit {0}
 Early (refused k) = late k ≡ false

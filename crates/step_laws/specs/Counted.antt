@@ -26,6 +26,10 @@ ints columns k = operand intType (pos 1) columns k
 abbrev pub reals : ℕ → Nature → Sheet
 reals columns k = operand floatType (pos 1) columns k
 
+-- what 2 to 5 make with a node number
+abbrev pub made : ℕ → ℕ → Nature → Sheet
+made node columns k = difference node intType columns k
+
 -- lists of one category each
 abbrev pub one : ℤ → Nature
 one u = wholeLists ((u ∷ []) ∷ [])
@@ -43,8 +47,8 @@ oneTwo = two (pos 1) (pos 2)
 abbrev pub trueLists : Nature
 trueLists = boolLists ((1 ∷ []) ∷ [])
 
-abbrev pub floatOnes : Nature
-floatOnes = floatLists ((0 ∷ []) ∷ [])
+abbrev pub floatZero : Nature
+floatZero = floatLists ((0 ∷ []) ∷ [])
 
 -- ---- the calls
 
@@ -69,8 +73,8 @@ table =
     ∷ alone 1 (ints 3 (boolLists ((1 ∷ []) ∷ (0 ∷ []) ∷ []))) (refused 29)
     ∷ alone 9 (ints 3 (two least (pos 1))) (refused 29)
     -- on left before right's 19 and 20, and on right before 21
-    ∷ pair 3 (ints 4 oneTwo) (ints 4 floatOnes) (refused 29)
-    ∷ pair 3 (ints 4 floatOnes) (ints 4 oneTwo) (refused 19)
+    ∷ pair 3 (ints 4 oneTwo) (ints 4 floatZero) (refused 29)
+    ∷ pair 3 (ints 4 floatZero) (ints 4 oneTwo) (refused 19)
     ∷ pair 2 (ints 4 oneTwo) (ints 4 (wholeLists [])) (refused 29)
     ∷ pair 2 (ints 3 oneTwo) (ints 3 trueLists) (refused 29)
     ∷ pair 2 (ints 3 trueLists) (ints 3 oneTwo) (refused 29)
@@ -78,12 +82,12 @@ table =
     ∷ pair 4 (ints 3 (boolLists ((1 ∷ []) ∷ (0 ∷ []) ∷ []))) (ints 3 trueLists) (refused 29)
     ∷ pair 2 (ints 3 (textLists ((a ∷ []) ∷ (b ∷ []) ∷ []))) (ints 3 (textLists ((c ∷ []) ∷ []))) (refused 29)
     -- by the output's columns and not by the sheet's own
-    ∷ pair 3 (ints 1 (two (pos 4) (pos 5))) (ints 2 (one (pos 1))) (ok (difference 9 intType 2 (two (pos 3) (pos 4))))
+    ∷ pair 3 (ints 1 (two (pos 4) (pos 5))) (ints 2 (one (pos 1))) (ok (made 9 2 (two (pos 3) (pos 4))))
     ∷ pair 2 (ints 2 oneTwo) (ints 1 (three (pos 10) (pos 20) (pos 30))) (refused 29)
     ∷ pair 2 (ints 1 oneTwo) (ints 1 (two (pos 10) (pos 20))) (refused 29)
     -- neither where a range meets categories nor where a nature is absent
-    ∷ pair 2 (ints 4 oneTwo) (ints 4 (between (pos 0) (pos 9))) (ok (difference 9 intType 4 absent))
-    ∷ pair 2 (ints 4 oneTwo) (ints 4 absent) (ok (difference 9 intType 4 absent))
+    ∷ pair 2 (ints 4 oneTwo) (ints 4 (between (pos 0) (pos 9))) (ok (made 9 4 absent))
+    ∷ pair 2 (ints 4 oneTwo) (ints 4 absent) (ok (made 9 4 absent))
     -- Float Power, whose columns are left's, before 22; Int Power has 15 first
     ∷ pair 8 (reals 1 (one (pos 1))) (reals 2 oneTwo) (refused 29)
     ∷ pair 8 (reals 2 oneTwo) (reals 2 (one (pos 1))) (refused 22)
@@ -123,8 +127,8 @@ leafSheets = ints 3 oneTwo ∷ ints 3 (between (pos 1) (pos 2)) ∷ []
 
 unfoldable pub planTable : List Plan
 planTable =
-    record { bytes = uncounted; handedIn = leafSheets; steps = difference 2 intType 3 absent ∷ []; code = 0; value = 3 }
-    ∷ record { bytes = thenNegative; handedIn = leafSheets; steps = difference 2 intType 3 absent ∷ []; code = 29; value = 3 }
+    record { bytes = uncounted; handedIn = leafSheets; steps = made 2 3 absent ∷ []; code = 0; value = 3 }
+    ∷ record { bytes = thenNegative; handedIn = leafSheets; steps = made 2 3 absent ∷ []; code = 29; value = 3 }
     ∷ []
 
 -- every row holds

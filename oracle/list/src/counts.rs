@@ -1,13 +1,8 @@
 //! What calls make of several category lists, and where they say 29 (document 02, S-5).
 
 use crate::form::{miscounted, Operand, MISCOUNTED};
-use crate::sheet::TEXT;
+use crate::sheet::{AT_COLUMNS, AT_LISTS, AT_NATURE, TEXT};
 use std::fmt;
-
-/// Places in a sheet.
-const AT_LISTS: usize = 2;
-const AT_NATURE: usize = 6;
-const AT_COLUMNS: usize = 40;
 
 /// Operands with several category lists, or refused for their count.
 #[derive(Clone, Copy, Debug, Default, PartialEq, Eq)]

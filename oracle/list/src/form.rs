@@ -1,7 +1,7 @@
 //! The list's form: one call a line, eight fields separated by one blank,
 //! `component node left right out_len code result mark`.
 
-use crate::sheet::HEAD;
+use crate::sheet::{AT_COLUMNS, AT_LISTS, AT_NATURE, HEAD};
 use std::fmt;
 
 /// The component that document 02 adds; the original has none such.
@@ -14,10 +14,6 @@ const POWER: u32 = 8;
 /// The refusal that document 02 adds behind 20, which the original has not.
 pub const MISCOUNTED: u32 = 29;
 
-/// Places in a sheet that has passed 3 to 5.
-const AT_LISTS: usize = 2;
-const AT_NATURE: usize = 6;
-const AT_COLUMNS: usize = 40;
 /// The number of float categories at byte 6.
 const FLOAT_LISTS: u8 = 5;
 

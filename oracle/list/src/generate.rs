@@ -251,7 +251,7 @@ fn nature(random: &mut Random, kind: u8, taste: Taste, columns: i64) -> Nature {
     }
 }
 
-/// So many lists of a kind; of none, the absent nature.
+/// So many lists of a kind; the absent nature for a kind that has none.
 fn categories(random: &mut Random, kind: u8, taste: Taste, lists: usize) -> Nature {
     match kind {
         3 => Nature::WholeLists((0..lists).map(|_| taste.whole_list(random)).collect()),

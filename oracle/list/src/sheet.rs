@@ -16,6 +16,10 @@ pub const MOST_COLUMNS: i64 = 16;
 pub const MOST_TEXT: usize = 1024;
 /// Where the parallel arrays begin.
 pub const HEAD: usize = 80;
+/// Places in it: the list count, the nature and the columns.
+pub const AT_LISTS: usize = 2;
+pub const AT_NATURE: usize = 6;
+pub const AT_COLUMNS: usize = 40;
 /// The longest sheet, and a plan's slot: 2,308.
 pub const LONGEST: usize = HEAD + 13 * MOST_GROUPS + 9 * MOST_CATEGORIES + MOST_TEXT;
 /// The number of text categories at byte 6.
