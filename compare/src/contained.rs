@@ -617,6 +617,7 @@ mod tests {
             "{counts}"
         );
         assert!(counting.outside.min(counting.refused) > 40, "{counts}");
+        assert!(counting.elsewhere > 4, "{counts}");
     }
 
     /// The sheets of an accepted plan of two leaves and one step, and the step.

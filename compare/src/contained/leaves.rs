@@ -64,12 +64,17 @@ impl Kin {
                 Zone::Edges,
                 Zone::Any,
             ]),
-            odd: random.pick(&[0, 0, 0, 0, 0, 0, 40, 80]),
+            odd: random.pick(&[0, 0, 0, 0, 0, 0, 80, 90]),
         }
     }
 
     pub fn leaf(&self, random: &mut Random) -> Sheet {
-        let columns = if random.percent(25) { 1 } else { self.columns };
+        let single = if self.odd > 0 { 45 } else { 25 };
+        let columns = if random.percent(single) {
+            1
+        } else {
+            self.columns
+        };
         let lists = if random.percent(50) { 1 } else { columns };
         Sheet {
             nature: self.nature(random, columns as usize, lists as usize),
@@ -104,7 +109,12 @@ impl Kin {
         if random.percent(ranges) {
             return Nature::WholeRange((0..lists).map(|_| self.ends(random)).collect());
         }
-        let lists = match random.percent(self.odd) {
+        // Fewer of the plan's own columns, with which another leaf's lists may go.
+        let odd = match columns as i64 == self.columns {
+            true => self.odd / 3,
+            false => self.odd,
+        };
+        let lists = match random.percent(odd) {
             true => self.odd_count(random, columns),
             false => lists,
         };
