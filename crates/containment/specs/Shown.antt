@@ -118,6 +118,7 @@ shownSteps =
     ∷ pooled 14 true 2 (wholeRange (between (minus 6) (pos 9) ∷ between (minus 12) (pos 16) ∷ []))
     ∷ pooled 15 false 2 (wholeLists ((pos 1 ∷ pos 2 ∷ pos 10 ∷ pos 11 ∷ []) ∷ (pos 5 ∷ pos 20 ∷ []) ∷ []))
     ∷ derived 16 2 (wholeRange (between (minus 5) (pos 1) ∷ between (pos 1) (pos 7) ∷ []))
+    -- Negative of a leaf has the leaf's fields and number
     ∷ leaf 2 (wholeLists ((minus 10 ∷ minus 11 ∷ []) ∷ (minus 20 ∷ []) ∷ []))
     ∷ []
 
