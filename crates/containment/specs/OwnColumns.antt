@@ -28,7 +28,7 @@ sumPlan =
     ∷ 0 ∷ 0 ∷ 1 ∷ 0  -- node 2: left 0, right 1
     ∷ []
 
--- {0}{0} over two columns, and {1}{} over one: its second list goes with the output's second column, and no number of the leaf with the list
+-- {0}{0} over two columns, and {1}{} over one: the second list goes with the output's second column, though the leaf's only number goes by the first
 abbrev pub sum : Plan
 sum = record {
   bytes = sumPlan;
