@@ -6,18 +6,17 @@ use mathlib.Core.Logic.{⊎-elim}
 use mathlib.Core.Option.{Option, some}
 use Prim.Native.Nat.{ℕ, zero, suc, _<_}
 use native.Mathlib.Omega.{arith}
-use lib.ListN.{length, getElem?, replicate, length-replicate}
+use lib.ListN.{length, getElem?, replicate}
 use borrow.Author.Tests.{not-false}
 use Rattle.numbers.specs.Result.{Result, ok, andThen, check, checked}
 use Rattle.numbers.specs.Kind.{Span}
 use Rattle.numbers.proofs.Results.{then-ok-inv, checked-passed}
 use Rattle.utilities.specs.Lists.{repeated}
 use Rattle.utilities.specs.Columns.{spreads, each, eachPair}
-use Rattle.utilities.proofs.Repeated.{repeated-full}
+use Rattle.utilities.proofs.Repeated.{one-or-each, repeated-full, repeated-length}
 use Rattle.ends.specs.Ranges.{rangePair, rangeAlone}
 use Rattle.derived.proofs.Answers.{ok-same}
 use Rattle.derived.proofs.Each.{pair-length}
-use Rattle.derived.proofs.Counted.{one-or-full}
 use Rattle.containment.specs.Demand.{entryFor, OneOrPerColumn}
 
 -- ---- the entry for a column
@@ -42,20 +41,11 @@ replicate-elem (suc n) x zero h = refl
 replicate-elem (suc n) x (suc j) h = replicate-elem n x j (omega arith)
 
 module _ {ℓ} {X : Type ℓ} (columns : ℕ) where
-  one-many : (xs : List X) → length xs ≡ 1 → length (repeated columns xs) ≡ columns
-  unfolding repeated
-  one-many [] h = absurd (omega arith)
-  one-many (x ∷ []) h = length-replicate columns x
-  one-many (x ∷ y ∷ xs) h = absurd (omega arith)
-
   one-entry : (xs : List X) (j : ℕ) → length xs ≡ 1 → j < columns → getElem? (repeated columns xs) j ≡ entryFor xs j
   unfolding repeated entryFor
   one-entry [] j h k = absurd (omega arith)
   one-entry (x ∷ []) j h k = replicate-elem columns x j k
   one-entry (x ∷ y ∷ xs) j h k = absurd (omega arith)
-
-  pub repeated-many : (xs : List X) → OneOrPerColumn xs columns → length (repeated columns xs) ≡ columns
-  repeated-many xs = ⊎-elim (λ h. one-many xs h) (λ h. ap length (repeated-full columns xs h) ∙ h)
 
   pub repeated-entry : (xs : List X) (j : ℕ) → OneOrPerColumn xs columns → j < columns → getElem? (repeated columns xs) j ≡ entryFor xs j
   repeated-entry xs j o k =
@@ -121,8 +111,8 @@ module _ {X Y : Type 0} (rule : X → X → Result Y) where
   pub spread-columns : (columns : ℕ) (xs ys : List X) {zs : List Y} → OneOrPerColumn xs columns → OneOrPerColumn ys columns
       → eachPair rule (repeated columns xs) (repeated columns ys) ≡ ok zs → Columnwise rule columns xs ys zs
   spread-columns columns xs ys {zs} o p e =
-      let m = repeated-many columns xs o in
-      let n = repeated-many columns ys p in
+      let m = repeated-length columns xs o in
+      let n = repeated-length columns ys p in
       let k = pair-length rule (repeated columns xs) (repeated columns ys) e in
       let l : length zs ≡ columns = omega arith in
       record { many = l; at = λ j h. at j h l m n }
@@ -150,7 +140,7 @@ module _ {X Y : Type 0} (rule : X → X → Result Y) where
 -- ---- ranges, whose lists 18 has passed
 
 spread-passed {ℓ} : {X : Type ℓ} (columns : ℕ) (xs : List X) → not (spreads columns (length xs)) ≡ false → OneOrPerColumn xs columns
-spread-passed columns xs e = one-or-full columns (length xs) (not-false (spreads columns (length xs)) e)
+spread-passed columns xs e = one-or-each columns (length xs) (not-false (spreads columns (length xs)) e)
 
 module _ {E : Type 0} (rule : Span E → Span E → Result (Span E)) (columns : ℕ) where
   pub range-columns : (xs ys : List (Span E)) {zs : List (Span E)} → rangePair rule columns xs ys ≡ ok zs → Columnwise rule columns xs ys zs

@@ -12,6 +12,7 @@ use lib.ListN.{length}
 use Rattle.numbers.specs.Result.{ok}
 use Rattle.numbers.proofs.Results.{then-ok-inv}
 use Rattle.utilities.specs.Columns.{spreads}
+use Rattle.utilities.proofs.Repeated.{one-or-each}
 use Rattle.base.specs.Form.{Form, narrow}
 use Rattle.base.specs.Sheet.{Sheet, Fields, Nature, isLists}
 use Rattle.base.specs.Encode.{entryCount}
@@ -27,7 +28,7 @@ use Rattle.calls.specs.Natures.{unaryNature}
 use Rattle.calls.specs.Derive.{deriveUnary, derive}
 use Rattle.plan_form.specs.Form.{leafCount, leftOf, rightOf}
 use Rattle.derived.proofs.Answers.{ok-same, checked-rest}
-use Rattle.derived.proofs.Counted.{one-or-full, maps-counted, pairs-counted}
+use Rattle.derived.proofs.Counted.{maps-counted, pairs-counted}
 use Rattle.containment.specs.Demand.{OneOrPerColumn, WholeNature, Combines, SpreadsBy, Spreads, Counted, Premises, sheetOf}
 use Rattle.containment.proofs.Slots.{Derives}
 use Rattle.containment.proofs.Accepted.{Accepted, sheet-after}
@@ -98,7 +99,7 @@ module _ {p work after : List ℕ} (a : Accepted p work after) where
   counted-whole leaf c =
       let columns = columnsOf (sheet leaf .fields) in
       let passes = subst (λ (n : Nature). Passes (sheet leaf .fields .columns) n) (c .holds) (counted-passes leaf c) in
-      let counts : OneOrPerColumn (c .lists) columns = one-or-full columns (length (c .lists)) passes in
+      let counts : OneOrPerColumn (c .lists) columns = one-or-each columns (length (c .lists)) passes in
       subst (λ (n : Nature). WholeNature n columns) (sym (c .holds)) counts
 
   pub leaf-whole : Premises p sheet → (k : ℕ) → k < leafCount p → WholeNature (sheet k .nature) (columnsOf (sheet k .fields))

@@ -4,20 +4,21 @@
 --                                    as the output has columns
 -- Assumes nothing.
 use mathlib.Core.Path.{_≡_, refl, sym, ap, subst, _∙_}
-use mathlib.Core.Bool.{Bool, true, false, cond, _||_}
-use mathlib.Core.List.{List, [], _∷_, map}
+use mathlib.Core.Bool.{Bool, true, false, cond}
+use mathlib.Core.List.{List, map}
 use mathlib.Core.Logic.{_⊎_, inl, inr, ⊎-elim}
 use mathlib.Core.Option.{some}
-use Prim.Native.Nat.{ℕ, suc}
+use Prim.Native.Nat.{ℕ}
 use native.Mathlib.Omega.{arith}
 use lib.Dec.{T, eqb}
 use lib.IntN.{ℤ}
-use lib.ListN.{length, length-map, length-replicate}
-use borrow.Author.Tests.{eqb-true, not-false}
+use lib.ListN.{length, length-map}
+use borrow.Author.Tests.{not-false}
 use Rattle.numbers.specs.Result.{Result, ok, andThen, checked}
 use Rattle.numbers.specs.Kind.{Span, whole, float, eqZ}
 use Rattle.utilities.specs.Lists.{firsts, repeated, standardized}
 use Rattle.utilities.specs.Columns.{spreads, each, eachPair}
+use Rattle.utilities.proofs.Repeated.{one-or-each, repeated-length}
 use Rattle.base.specs.Form.{Form, wholeListsNature, boolListsNature, textListsNature}
 use Rattle.base.specs.Sheet.{Nature, absent, wholeRange, floatRange, wholeLists, boolLists, floatLists, textLists, isLists, Sheet}
 use Rattle.base.specs.Encode.{natureNumber, entryCount}
@@ -39,13 +40,6 @@ use Rattle.derived.proofs.Families.{natureBy, OverColumns, by-family}
 
 -- ---- lists that 18 or 29 has counted
 
-pub one-or-full : (columns n : ℕ) → spreads columns n ≡ true → (n ≡ 1) ⊎ (n ≡ columns)
-one-or-full columns n e = go (eqb n columns) refl e
-  where
-    go : (t : Bool) → eqb n columns ≡ t → (t || eqb n 1) ≡ true → (n ≡ 1) ⊎ (n ≡ columns)
-    go true h e = inr (eqb-true n columns h)
-    go false h e = inl (eqb-true n 1 e)
-
 module _ (columns : ℕ) where
   -- one for each column
   abbrev Full : {X : Type 0} → List X → Type 0
@@ -55,10 +49,7 @@ module _ (columns : ℕ) where
   Spreading xs = spreads columns (length xs) ≡ true
 
   spread-full : {X : Type 0} (xs : List X) → Spreading xs → Full (repeated columns xs)
-  unfolding repeated
-  spread-full [] p = ⊎-elim (λ h. absurd (omega arith)) (λ h. h) (one-or-full columns 0 p)
-  spread-full (x ∷ []) p = length-replicate columns x
-  spread-full (x ∷ y ∷ xs) p = ⊎-elim (λ h. absurd (omega arith)) (λ h. h) (one-or-full columns (suc (suc (length xs))) p)
+  spread-full xs p = repeated-length columns xs (one-or-each columns (length xs) p)
 
   module _ {X Y : Type 0} where
     pair-full : (rule : X → X → Result Y) (xs ys : List X) → Spreading xs → Spreading ys → IfOk Full (eachPair rule (repeated columns xs) (repeated columns ys))

@@ -1,8 +1,8 @@
 -- A list of one entry, or of one per column, spread over the columns. Assumes nothing.
 use mathlib.Core.Path.{_≡_, refl, sym, ap, _∙_}
-use mathlib.Core.Bool.{Bool, true, false, cond, _||_}
+use mathlib.Core.Bool.{Bool, true, false, cond}
 use mathlib.Core.List.{List, _∷_}
-use mathlib.Core.Logic.{_⊎_, inl, inr, ⊎-elim}
+use mathlib.Core.Logic.{⊎-elim}
 use Prim.Native.Nat.{ℕ, zero, suc, _+_}
 use lib.Dec.{eqb}
 use lib.ListN.{length, replicate}
@@ -10,15 +10,8 @@ use borrow.Author.Tests.{eqb-true, eqb-false, eq-eqb, ne-eqb}
 use Rattle.utilities.specs.Lists.{listFrom, repeated}
 use Rattle.utilities.specs.Columns.{spreads}
 use Rattle.utilities.proofs.Built.{listFrom-length}
-use Rattle.utilities.proofs.Repeated.{repeated-full}
+use Rattle.utilities.proofs.Repeated.{one-or-each, repeated-full}
 use Rattle.ranges.specs.Chained.{entryOf}
-
-pub one-of : (columns n : ℕ) → spreads columns n ≡ true → (n ≡ columns) ⊎ (n ≡ 1)
-one-of columns n h = go (eqb n columns) refl h
-  where
-    go : (t : Bool) → eqb n columns ≡ t → (t || eqb n 1) ≡ true → (n ≡ columns) ⊎ (n ≡ 1)
-    go true e h = inl (eqb-true n columns e)
-    go false e h = inr (eqb-true n 1 h)
 
 -- the only entry, and an entry per column
 pub only-entry : (n j : ℕ) → n ≡ 1 → entryOf n j ≡ 0
@@ -55,7 +48,7 @@ module _ {X : Type 0} where
             ap (λ (k : ℕ). repeated columns (listFrom k 0 f)) one ∙ one-repeated
             ∙ listFrom-same (λ j. ap f (sym (only-entry n j one))) columns 0
         go false e =
-            let full : n ≡ columns = ⊎-elim (λ p. p) (λ p. absurd (eqb-false n 1 e p)) (one-of columns n h) in
+            let full : n ≡ columns = ⊎-elim (λ p. absurd (eqb-false n 1 e p)) (λ p. p) (one-or-each columns n h) in
             repeated-full columns (listFrom n 0 f) (listFrom-length f n 0 ∙ full)
             ∙ ap (λ (k : ℕ). listFrom k 0 f) full
             ∙ listFrom-same (λ j. ap f (sym (own-entry n j (eqb-false n 1 e)))) columns 0

@@ -4,17 +4,6 @@ use crate::answering::propagate_property;
 use crate::made::*;
 use crate::walked::{slot, walked, FILLER};
 
-const ABS: u32 = 1;
-const ADD: u32 = 2;
-const SUBTRACT: u32 = 3;
-const MULTIPLY: u32 = 4;
-const DIVIDE: u32 = 5;
-const MODULO: u32 = 6;
-const LOG: u32 = 7;
-const POWER: u32 = 8;
-const NEGATIVE: u32 = 9;
-const POOL: u32 = 10;
-
 /// Numbers of the natures.
 const ABSENT: u8 = 0;
 const RANGE: u8 = 1;

@@ -2,6 +2,18 @@
 
 use crate::answering::propagate_property;
 
+/// The components by number.
+pub const ABS: u32 = 1;
+pub const ADD: u32 = 2;
+pub const SUBTRACT: u32 = 3;
+pub const MULTIPLY: u32 = 4;
+pub const DIVIDE: u32 = 5;
+pub const MODULO: u32 = 6;
+pub const LOG: u32 = 7;
+pub const POWER: u32 = 8;
+pub const NEGATIVE: u32 = 9;
+pub const POOL: u32 = 10;
+
 pub const SLOT: usize = 2308;
 
 pub type Entry = (Option<i64>, Option<i64>);

@@ -4,8 +4,6 @@ use crate::answering::{propagate_properties, propagate_property};
 use crate::made::*;
 use plain_port::check_sheet;
 
-const POOL: u32 = 10;
-
 fn pool(left: &[u8], right: &[u8]) -> Result<Vec<u8>, u32> {
     call(POOL, left, right)
 }

@@ -2,8 +2,6 @@
 
 use crate::made::*;
 
-const ABS: u32 = 1;
-const NEGATIVE: u32 = 9;
 const SIGN: u64 = 1 << 63;
 
 /// What a call makes of a float range: these bits, and all else as it was.

@@ -5,9 +5,6 @@ use crate::made::*;
 use crate::walked::{slot, walked, FILLER};
 use plain_port::check_sheet;
 
-const ABS: u32 = 1;
-const ADD: u32 = 2;
-const SUBTRACT: u32 = 3;
 const NODE: usize = 72;
 const LEAST: i64 = i64::MIN;
 const MOST: i64 = i64::MAX;

@@ -3,17 +3,6 @@
 use crate::answering::{propagate_properties, propagate_property};
 use crate::made::*;
 
-const ABS: u32 = 1;
-const ADD: u32 = 2;
-const SUBTRACT: u32 = 3;
-const MULTIPLY: u32 = 4;
-const DIVIDE: u32 = 5;
-const MODULO: u32 = 6;
-const LOG: u32 = 7;
-const POWER: u32 = 8;
-const NEGATIVE: u32 = 9;
-const POOL: u32 = 10;
-
 const INT: &[(usize, u8)] = &[(TYPE, 4)];
 const FLOAT: &[(usize, u8)] = &[(TYPE, 3)];
 
