@@ -1,4 +1,4 @@
--- 01, "Categories", and 02, S-1 and S-2: lists mapped or combined by a rule, or united.
+-- 01, "Categories", and 02, S-1, S-2 and S-6: lists mapped or combined by a rule, or united.
 use mathlib.Core.Bool.{Bool, true, false, cond, _&&_}
 use mathlib.Core.List.{List, [], _∷_, _++_}
 use mathlib.Core.Option.{Option, none, some}
@@ -95,9 +95,13 @@ module _ {X : Type 0} (same : X → X → Bool) (rule : X → X → Result X) wh
   unfoldable pub combined : ℕ → List (List X) → List (List X) → Result (List (List X))
   combined columns ls ms = eachPair product (standardized same columns ls) (standardized same columns ms)
 
-  -- 01: "Abs and Negative map whole numbers and keep repeats" (those of the result: the operand's go first, as in the Rust)
+  -- 02, S-6: "Mapping a category list now yields first occurrences only". (This replaces 01's "and keep repeats")
+  unfoldable pub image : List X → Result (List X)
+  image us = andThen (each (λ a. rule a a) us) (λ cs. ok (firsts same cs))
+
+  -- 01: "Abs and Negative map whole numbers": one operand's lists, over the output columns
   unfoldable pub mapped : ℕ → List (List X) → Result (List (List X))
-  mapped columns ls = each (each (λ a. rule a a)) (standardized same columns ls)
+  mapped columns ls = each image (standardized same columns ls)
 
 -- 02, S-1: "Categories, bool too, are left's followed by right's, repeats gone"
 module _ {X : Type 0} (same : X → X → Bool) where
@@ -107,7 +111,8 @@ module _ {X : Type 0} (same : X → X → Bool) where
   unfoldable pub united : ℕ → List (List X) → List (List X) → Result (List (List X))
   united columns ls ms = eachPair union (standardized same columns ls) (standardized same columns ms)
 
--- 26: "The result holds over 128 categories, counted as they would be written"; tested only if no pair fails
+-- 26: "The result holds over 128 categories, counted as they would be written"; tested only if no pair fails. 02, S-6: "Code 26 on Abs and Negative counts what
+-- is left"
 unfoldable pub keptTo : ℕ → Nature → Result Nature
 keptTo limit k = cond (ltb limit (valueCount k)) (refused 26) (ok k)
 

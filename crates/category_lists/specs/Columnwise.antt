@@ -8,10 +8,9 @@ use lib.ListN.{length, getD}
 use lib.Dec.{eqb}
 use Rattle.numbers.specs.Result.{Result, ok, andThen}
 use Rattle.utilities.specs.Lists.{firsts}
-use Rattle.utilities.specs.Columns.{each}
 use Rattle.base.specs.Form.{Form, byteAt, natureAt, isRangeNature, listCount}
 use Rattle.base.specs.Checks.{sizesFail}
-use Rattle.category_lists.specs.Categories.{product}
+use Rattle.category_lists.specs.Categories.{product, image}
 
 -- a sheet that passed 3, of categories, with lists: 20 is "A category operand has no lists"
 pub record Listed (F : Form) (s : List ℕ) : Type 0 where
@@ -48,7 +47,7 @@ lesserOf (suc a) (suc b) = suc (lesserOf a b)
 
 -- column j of left's lists alone, or of both operands' lists
 unfoldable pub columnOf : {X : Type 0} → Bool → (X → X → Bool) → (X → X → Result X) → List (List X) → List (List X) → ℕ → Result (List X)
-columnOf true same rule ls ms j = each (λ a. rule a a) (firsts same (pick ls j))
+columnOf true same rule ls ms j = image same rule (firsts same (pick ls j))
 columnOf false same rule ls ms j = product same rule (firsts same (pick ls j)) (firsts same (pick ms j))
 
 -- the columns from j up to end are one, or all are the first: each operand has one list

@@ -18,7 +18,8 @@ ghost use Rattle.category_lists.specs.Categories.{mapped, limited, ruleOf};
 ghost use Rattle.category_lists.specs.Columnwise.{Listed, eachFrom, columnOf};
 ghost use Rattle.category_lists.specs.Answers.{Stores, Arrays};
 
-// n columns in order, of each its values mapped; repeats of the results stay. The first value that fails ends it.
+// n columns in order, of each its values mapped, each result once. The first value that fails ends the whole of it; too many categories refuse only when
+// every value has passed.
 fn maps_into(
     f: Form,
     c: Component,
@@ -39,16 +40,18 @@ fn maps_into(
     let mut t: usize = 0;
     let mut j: usize = 0;
     'product: while j < n {
-        let k = category_lists::column_list(f, left, j, us, hints);
+        let l = category_lists::column_list(f, left, j, us, hints);
+        utilities::clear_hints(hints);
+        let mut k: usize = 0;
         let mut i: usize = 0;
-        while i < k {
+        while i < l {
             let a = us[i];
             let Checked::Fits(v) = category_lists::mapping(c, a) else {
                 code = refusals::LEAVES_64_BITS;
                 break 'product;
             };
-            store[i] = v;
             i += 1;
+            k = category_lists::note_result(store, k, v, hints);
         }
         let end = category_lists::column_end(f, left, left, j, n);
         t = category_lists::append_columns(f, store, k, j, end, t, numbers, values);

@@ -1,5 +1,5 @@
 -- utilities/mod.rs: lists without repeats, and category lists made ready for the columns.
-use mathlib.Core.Bool.{Bool, true, false, cond, _||_}
+use mathlib.Core.Bool.{Bool, true, false, cond, not, _&&_, _||_}
 use mathlib.Core.List.{List, [], _∷_, _++_, map}
 use Prim.Native.Nat.{ℕ, zero, suc, _+_}
 use lib.ListN.{replicate}
@@ -35,6 +35,11 @@ module _ {X : Type 0} (same : X → X → Bool) where
   -- `deduplicate`. 01: "first occurrences stay"
   unfoldable pub firsts : List X → List X
   firsts xs = firstsFrom [] xs
+
+  -- a list without repeats: no value is the same as one in front of it
+  unfoldable pub distinct : List X → Bool
+  distinct [] = true
+  distinct (x ∷ xs) = every (λ y. not (same y x)) xs && distinct xs
 
 -- 01: "One list repeats per output column". (Another count is that of the columns: 18, and for categories 29 of 02, S-5, which replaces 01's "other counts
 -- stay")
