@@ -20,7 +20,7 @@ use Rattle.utilities.proofs.Repeated.{standardized-one, standardized-at}
 use Rattle.base.specs.Form.{Form, listCount}
 use Rattle.base.specs.Decode.{asWhole, lists}
 use Rattle.base.specs.declared.Component.{Component}
-use Rattle.category_lists.specs.Categories.{product, combined, mapped, ruleOf}
+use Rattle.category_lists.specs.Categories.{product, combined, image, mapped, ruleOf}
 use Rattle.category_lists.specs.Columnwise.{Alike, eachFrom, behind, pick, spreadOf, lesserOf, columnOf}
 use Rattle.category_lists.proofs.Operands.{lists-length, pick-only, pick-own}
 
@@ -182,10 +182,10 @@ module _ {X : Type 0} (same : X → X → Bool) (rule : X → X → Result X) (c
       let us = standardized same columns ls in
       let l = standardized-length same columns ls in
       ap (λ (k : ℕ). eachFrom (columnOf true same rule ls ms) k 0) (e ∙ sym l)
-      ∙ from-each [] (columnOf true same rule ls ms) (each (λ a. rule a a)) us 0
+      ∙ from-each [] (columnOf true same rule ls ms) (image same rule) us 0
       (λ k h.
       let a : k < spreadOf columns (length ls) = omega arith in
-      ap (columnOf true same rule ls ms) (omega arith) ∙ sym (ap (each (λ a. rule a a)) (standardized-pick same columns ls k a)))
+      ap (columnOf true same rule ls ms) (omega arith) ∙ sym (ap (image same rule) (standardized-pick same columns ls k a)))
 
 -- the columns from j up to end are all column j, for whatever is made of the two operands' lists
 pub alike : {X Y : Type 0} (made : List X → List X → Result Y) (F : Form) (left right : List ℕ) (read : ℕ → X) (j end : ℕ) {y : Y} → Alike F left right j end
@@ -207,5 +207,5 @@ columnIn alone c F left right = columnOf alone eqZ (ruleOf c) (lists F left asWh
 pub column-alike : (alone : Bool) (c : Component) (F : Form) (left right : List ℕ) (j end : ℕ) {xs : List ℤ} → Alike F left right j end
     → columnIn alone c F left right j ≡ ok xs → (i : ℕ) → j ≤ i → i < end → columnIn alone c F left right i ≡ ok xs
 unfolding columnOf
-column-alike true c F left right = alike (λ l m. each (λ a. ruleOf c a a) (firsts eqZ l)) F left right asWhole
+column-alike true c F left right = alike (λ l m. image eqZ (ruleOf c) (firsts eqZ l)) F left right asWhole
 column-alike false c F left right = alike (λ l m. product eqZ (ruleOf c) (firsts eqZ l) (firsts eqZ m)) F left right asWhole

@@ -3,3 +3,5 @@ pub mod Operands
 pub mod Columnwise
 pub mod Gathering
 pub mod Ruled
+pub mod Noting
+pub mod Distinct

@@ -1,57 +1,47 @@
--- `firsts` gives a list without repeats, and leaves such a list as it is. Assumes nothing.
-use mathlib.Core.Path.{_≡_, refl, sym, ap, ap₂, _∙_}
-use mathlib.Core.Bool.{Bool, true, false, cond}
-use mathlib.Core.Logic.{⊎-elim}
+-- `firsts` gives a list without repeats, over any equality. Assumes nothing.
+use mathlib.Core.Path.{_≡_, refl, sym, ap, subst, _∙_}
+use mathlib.Core.Bool.{Bool, true, false, cond, not, _&&_, _||_}
 use mathlib.Core.List.{List, [], _∷_, _++_}
-use Prim.Native.Nat.{ℕ, zero, suc, _<_, _≤_}
-use native.Mathlib.Numerals.{add-one}
-use native.Mathlib.Nat.{eq-or-lt-of-le}
-use native.Mathlib.Omega.{arith}
-use lib.ListN.{length, take, getD, length-append, List·getD-append}
-use lib.Seq.{take-suc, take-append-le, take-length, getD-at, take-at}
-use Rattle.utilities.specs.Lists.{has, noted, firstsFrom, firsts}
-use Rattle.utilities.proofs.Firsts.{noted-new, firsts-next}
+use lib.Dec.{T}
+use Rattle.utilities.specs.Lists.{every, has, noted, firstsFrom, firsts, distinct}
 
-module _ {X : Type 0} (same : X → X → Bool) (d : X) where
-  -- no value is among those in front of it
-  abbrev pub Distinct : List X → Type 0
-  Distinct xs = (j : ℕ) → j < length xs → has same (getD xs j d) (take j xs) ≡ false
+-- one value more passes the test
+every-more : {X : Type 0} (p : X → Bool) (xs : List X) (x : X) → every p xs ≡ true → p x ≡ true → every p (xs ++ (x ∷ [])) ≡ true
+unfolding every
+every-more p [] x h e = ap (λ (t : Bool). cond t true false) e
+every-more p (y ∷ xs) x h e = go (p y) h (λ k. every-more p xs x k e)
+  where
+    go : (t : Bool) → cond t (every p xs) false ≡ true → (every p xs ≡ true → every p (xs ++ (x ∷ [])) ≡ true) → cond t (every p (xs ++ (x ∷ []))) false ≡ true
+    go true h r = r h
+    go false h r = h
 
-  distinct-more : (seen : List X) (x : X) → has same x seen ≡ false → Distinct seen → Distinct (seen ++ (x ∷ []))
-  distinct-more seen x new h j k =
-      let within : j ≤ length seen = omega (arith, length-append seen (x ∷ [])) in
-      ⊎-elim
-      (λ (e : j ≡ length seen). ap₂ (has same) (getD-at seen x [] d j (sym e)) (take-at seen (x ∷ []) j (sym e)) ∙ new)
-      (λ (l : j < length seen). ap₂ (has same) (List·getD-append seen (x ∷ []) d j l) (take-append-le j seen (x ∷ []) within) ∙ h j l)
-      (eq-or-lt-of-le within)
+module _ {X : Type 0} (same : X → X → Bool) where
+  -- a value that is not among them
+  distinct-more : (seen : List X) (x : X) → has same x seen ≡ false → distinct same seen ≡ true → distinct same (seen ++ (x ∷ [])) ≡ true
+  unfolding distinct every has
+  distinct-more [] x new h = refl
+  distinct-more (y ∷ seen) x new h = go (same x y) refl (every (λ z. not (same z y)) seen) refl new h (distinct-more seen x)
+    where
+      go : (s : Bool) → same x y ≡ s → (t : Bool) → every (λ z. not (same z y)) seen ≡ t → s || has same x seen ≡ false → t && distinct same seen ≡ true
+          → (has same x seen ≡ false → distinct same seen ≡ true → distinct same (seen ++ (x ∷ [])) ≡ true)
+          → every (λ z. not (same z y)) (seen ++ (x ∷ [])) && distinct same (seen ++ (x ∷ [])) ≡ true
+      go true e t f new h more = absurd (subst T new tt)
+      go false e false f new h more = absurd (subst T (sym h) tt)
+      go false e true f new h more = rw (every-more (λ z. not (same z y)) seen x f (ap not e)) (more new h)
 
-  distinct-noted : (seen : List X) (x : X) → Distinct seen → Distinct (noted same seen x)
+  distinct-noted : (seen : List X) (x : X) → distinct same seen ≡ true → distinct same (noted same seen x) ≡ true
   unfolding noted
   distinct-noted seen x h = go (has same x seen) refl
     where
-      go : (t : Bool) → has same x seen ≡ t → Distinct (cond t seen (seen ++ (x ∷ [])))
+      go : (t : Bool) → has same x seen ≡ t → distinct same (cond t seen (seen ++ (x ∷ []))) ≡ true
       go true e = h
       go false e = distinct-more seen x e h
 
-  distinct-from : (seen xs : List X) → Distinct seen → Distinct (firstsFrom same seen xs)
+  distinct-from : (seen xs : List X) → distinct same seen ≡ true → distinct same (firstsFrom same seen xs) ≡ true
   unfolding firstsFrom
   distinct-from seen [] h = h
   distinct-from seen (x ∷ xs) h = distinct-from (noted same seen x) xs (distinct-noted seen x h)
 
-  pub firsts-distinct : (xs : List X) → Distinct (firsts same xs)
-  unfolding firsts
-  firsts-distinct xs = distinct-from [] xs (λ j k. absurd (omega arith))
-
-  upto : (xs : List X) → Distinct xs → (i : ℕ) → i ≤ length xs → firsts same (take i xs) ≡ take i xs
-  unfolding firsts firstsFrom
-  upto xs h zero k = refl
-  upto xs h (suc i) k =
-      let x = getD xs i d in
-      ap (λ (n : ℕ). firsts same (take n xs)) (sym (add-one i))
-      ∙ firsts-next same xs i d (omega arith)
-      ∙ ap (λ (l : List X). noted same l x) (upto xs h i (omega arith))
-      ∙ noted-new same (take i xs) x (h i (omega arith))
-      ∙ sym (take-suc xs i d (omega arith))
-
-  pub distinct-firsts : (xs : List X) → Distinct xs → firsts same xs ≡ xs
-  distinct-firsts xs h = ap (firsts same) (sym (take-length xs)) ∙ upto xs h (length xs) (omega arith) ∙ take-length xs
+  pub firsts-distinct : (xs : List X) → distinct same (firsts same xs) ≡ true
+  unfolding firsts distinct
+  firsts-distinct xs = distinct-from [] xs refl

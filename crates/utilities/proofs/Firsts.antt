@@ -80,14 +80,6 @@ module _ {X : Type 0} (same : X → X → Bool) where
   firstsFrom-append seen [] ys = refl
   firstsFrom-append seen (x ∷ xs) ys = firstsFrom-append (noted same seen x) xs ys
 
-  -- one more value
-  pub firsts-next : (xs : List X) (i : ℕ) (d : X) → i < length xs → firsts same (take (i + 1) xs) ≡ noted same (firsts same (take i xs)) (getD xs i d)
-  unfolding firsts firstsFrom
-  firsts-next xs i d h =
-      ap (λ (n : ℕ). firstsFrom same [] (take n xs)) (add-one i)
-      ∙ ap (firstsFrom same []) (take-suc xs i d h)
-      ∙ firstsFrom-append [] (take i xs) (getD xs i d ∷ [])
-
   pub firstsFrom-length : (seen xs : List X) → length (firstsFrom same seen xs) ≤ length seen + length xs
   unfolding firstsFrom
   firstsFrom-length seen [] = omega arith
