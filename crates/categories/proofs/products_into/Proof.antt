@@ -22,9 +22,10 @@ use Rattle.base.proofs.Forms.{small}
 use Rattle.category_lists.specs.Categories.{product, ruleOf}
 use Rattle.category_lists.specs.Columnwise.{columnOf}
 use Rattle.category_lists.proofs.Operands.{begun-length, answered}
-use Rattle.categories.proofs.Pairs.{product-is, row-start, all-end, inRow, inPairs, next-pair, bad-pair, next-row, Making, making-start, making-same, making-more, making-refused, making-done}
+use Rattle.categories.proofs.Pairs.{product-is, row-start, all-end, inRow, inPairs, next-pair, bad-pair, next-row}
 use Rattle.category_lists.proofs.Columnwise.{columnIn, column-alike}
 use Rattle.category_lists.proofs.Gathering.{arrays-kept, Going, Ended, going-start, going-more, going-done, going-within, going-failed, ended-refused, ended-gathered}
+use Rattle.category_lists.proofs.Noting.{Making, making-start, making-same, making-more, making-refused, making-done}
 use Rattle.categories.proofs.products_into.Statement.{statement}
 use Rattle.categories.proofs.products_into.Tie as tie
 

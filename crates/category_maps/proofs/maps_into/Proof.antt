@@ -1,41 +1,50 @@
--- `category_maps::maps_into` meets its contract. The invariants: j columns are written, and the others will make the whole of them; column j is what
--- stands in the store, and then the values that are left, mapped. Assumes nothing.
+-- `category_maps::maps_into` meets its contract. The invariants: j columns are written, and the others will make the whole of them; column j is
+-- what the values that are left make of what was seen, and the store keeps that as far as it has room. Assumes nothing.
 use mathlib.Core.Path.{_≡_, refl, sym, ap, _∙_}
 use mathlib.Core.Bool.{true}
 use mathlib.Core.Logic.{⊎-elim}
-use mathlib.Core.List.{List, [], _∷_, _++_}
-use Prim.Native.Nat.{ℕ, _+_, _-_, _≤_, _<_}
-use native.Mathlib.Numerals.{add-one}
+use mathlib.Core.List.{List}
+use Prim.Native.Nat.{ℕ, _+_, _-_, _≤_, _<_, _^_}
 use native.Mathlib.Omega.{arith}
 use lib.IntN.{ℤ, pos}
-use lib.ListN.{length, take, drop, getD, set, length-set}
-use lib.Seq.{take-suc-set}
+use lib.ListN.{length, take, drop, getD}
 use mir.Syntax.{w64}
 use mir.Val.{toZ, ofZ}
+use mir.Facts.{toZ-ofZ}
 use denote.Ref.{now}
 use borrow.Author.Needs.{needs}
-use Rattle.numbers.specs.Result.{ok}
-use Rattle.numbers.specs.Kind.{fitting}
-use Rattle.utilities.specs.Columns.{each}
+use Rattle.numbers.specs.Result.{Result}
+use Rattle.numbers.specs.Kind.{fitting, eqZ}
+use Rattle.utilities.specs.Noted.{Hinting}
 use Rattle.utilities.proofs.Begins.{begins-room}
+use Rattle.utilities.proofs.Hints.{hinting-none}
 use Rattle.base.specs.Form.{formOf, wholeListsNature}
-use Rattle.category_lists.specs.Categories.{ruleOf}
-use Rattle.category_lists.specs.Columnwise.{behind, columnOf}
-use Rattle.category_lists.proofs.Operands.{begun-length, column-few, answered}
-use Rattle.category_lists.proofs.Columnwise.{behind-none, each-ok, each-bad, each-end, columnIn, column-alike}
-use Rattle.category_lists.proofs.Gathering.{stored-list, arrays-kept, Going, Ended, going-start, going-more, going-done, going-within, going-failed, ended-refused, ended-gathered}
+use Rattle.base.specs.declared.Component.{Component}
+use Rattle.base.proofs.Forms.{small}
+use Rattle.category_lists.specs.Categories.{image, ruleOf}
+use Rattle.category_lists.specs.Columnwise.{columnOf}
+use Rattle.category_lists.proofs.Operands.{begun-length, answered}
+use Rattle.category_lists.proofs.Columnwise.{columnIn, column-alike}
+use Rattle.category_lists.proofs.Gathering.{arrays-kept, Going, Ended, going-start, going-more, going-done, going-within, going-failed, ended-refused, ended-gathered}
+use Rattle.category_lists.proofs.Noting.{notedFrom, image-is, notes-end, notes-ok, notes-bad, Making, making-start, making-more, making-refused, making-done}
 use Rattle.category_maps.proofs.maps_into.Statement.{statement}
 use Rattle.category_maps.proofs.maps_into.Tie as tie
 
+-- what the values from i on make of those that were seen
+abbrev restOf : Component → List ℤ → ℕ → List ℤ → Result (List ℤ)
+restOf c us i seen = notedFrom eqZ (λ a. ruleOf c a a) seen (drop i us)
+
 abbrev Inv-loop : tie.InvT-loop
-Inv-loop f c n left us store₀ hints numbers values code₀ t j k i₀ store code i =
-    (i ≤ k)
+Inv-loop f c n left us store₀ hints₀ numbers values code₀ t j l k₀ i₀ store hints code k i =
+    (i ≤ l)
     × (length store ≡ length store₀)
     × (code ≡ 0)
-    × (columnIn true c (formOf f) left left j ≡ behind (take i store) (each (λ a. ruleOf c a a) (drop i (take k us))))
+    × (k ≤ length store + 1)
+    × Hinting hints (take k store)
+    × Making k store (restOf c (take l us) i) (columnIn true c (formOf f) left left j)
 
 abbrev μ-loop : tie.MeasureT-loop
-μ-loop f c n left us store₀ hints numbers values code₀ t j k i₀ store code i = k - i
+μ-loop f c n left us store₀ hints₀ numbers values code₀ t j l k₀ i₀ store hints code k i = l - i
 
 abbrev Inv-product : tie.InvT-product
 Inv-product f c n left us₀ store₀ hints₀ numbers₀ values₀ code₀ t₀ j₀ us store hints numbers values code t j =
@@ -59,27 +68,27 @@ column-list-requires c κs =
     let p = t .before .before .before .before .before .before .pre in
     (p .0 .0, λ h. omega (arith, p .0 .1 h, t .product-test .taken), omega arith, omega arith)
 
+clear-hints-requires : tie.Need-clear-hints-requires Inv-loop μ-loop Inv-product μ-product
+clear-hints-requires c κs =
+    let q = c .before .before .before .before in
+    let o = q .before .before .before .before in
+    q .column-list .kept .1 .1 .1 .1 .0 ∙ o .product .inv .3 ∙ o .before .before .before .before .before .pre .1 .1 .0 .hinted
+
 -- ---- the values of column j
 
 loop-holds : tie.Need-loop-holds Inv-loop μ-loop Inv-product μ-product
 unfolding columnOf
 loop-holds c =
-    let q = c .before .before .before in
+    let q = c .before .before .before .before .before .before .before in
     let o = q .before .before .before .before in
-    let rule : ℤ → _ = λ z. ruleOf (o .before .before .before .before .before .args .c) z z in
+    let rule = ruleOf (o .before .before .before .before .before .args .c) in
     let us = take (q .column-list .result) (q .column-list .last .1 .1 .1 .0) in
-    (search needs, refl, o .product .inv .0 .fine, sym (ap (each rule) (q .column-list .ensures .start)) ∙ behind-none (each rule us))
+    let column = sym (ap (image eqZ rule) (q .column-list .ensures .start)) ∙ image-is eqZ rule us in
+    (search needs, refl, o .product .inv .0 .fine, search needs, hinting-none (c .before .before .clear-hints .ensures), making-start (o .product .store) (restOf (o .before .before .before .before .before .args .c) us 0) column)
 
--- a value that is read stands in its store, and its result has a place
-left-within : (c : tie.In-loop Inv-loop μ-loop Inv-product μ-product) → c .before .loop .i < length (c .before .before .before .before .before .column-list .last .1 .1 .1 .0)
-left-within c = omega (arith, c .loop-test .taken, begins-room (c .before .before .before .before .before .column-list .ensures))
-
-result-within : (c : tie.In-loop Inv-loop μ-loop Inv-product μ-product) → c .before .loop .i < length (c .before .loop .store)
-result-within c =
-    let q = c .before .before .before .before .before in
-    let o = q .before .before .before .before in
-    let p = o .before .before .before .before .before .pre in
-    omega (arith, c .loop-test .taken, column-few (o .product .j) (p .0 .0) (q .column-list .ensures), c .before .loop .inv .1, o .product .inv .2, p .1 .1 .0 .results)
+-- a value that is read stands in its store
+left-within : (c : tie.In-loop Inv-loop μ-loop Inv-product μ-product) → c .before .loop .i < length (c .before .before .before .before .before .before .before .before .before .column-list .last .1 .1 .1 .0)
+left-within c = omega (arith, c .loop-test .taken, begins-room (c .before .before .before .before .before .before .before .before .before .column-list .ensures))
 
 mul-a : tie.Need-mul-a Inv-loop μ-loop Inv-product μ-product
 mul-a c = let w = left-within c in search needs
@@ -87,89 +96,89 @@ mul-a c = let w = left-within c in search needs
 slice-copy-out-a : tie.Need-slice-copy-out-a Inv-loop μ-loop Inv-product μ-product
 slice-copy-out-a c = let w = left-within c in search needs
 
-mul-v : tie.Need-mul-v Inv-loop μ-loop Inv-product μ-product
-mul-v c = let w = result-within (c .before .before .before .before .before) in search needs
+-- the store is as long as a sheet has room for categories
+results-size : (c : tie.At-loop Inv-loop μ-loop Inv-product μ-product) →
+    let o = c .before .before .before .before .before .before .before .before .before .before .before .before in
+    length (c .loop .store) ≡ formOf (o .before .before .before .before .before .args .f) .categoryLimit
+results-size c =
+    let o = c .before .before .before .before .before .before .before .before .before .before .before .before in
+    c .loop .inv .1 ∙ o .product .inv .2 ∙ o .before .before .before .before .before .pre .1 .1 .0 .results
 
-slice-set-from-v : tie.Need-slice-set-from-v Inv-loop μ-loop Inv-product μ-product
-slice-set-from-v c = let w = result-within (c .before .before .before .before .before) in search needs
+note-result-requires : tie.Need-note-result-requires Inv-loop μ-loop Inv-product μ-product
+note-result-requires c κs =
+    let l = c .before .before .before .before .before .before .before .before in
+    let few : length (l .loop .store) < 2 ^ 32 = omega (arith, results-size l, small (l .before .before .before .before .before .before .before .before .before .before .before .before .before .before .before .before .before .args .f) .categories) in
+    (l .loop .inv .3, few, l .loop .inv .4)
 
 loop-again : tie.Need-loop-again Inv-loop μ-loop Inv-product μ-product
 loop-again c =
-    let g = c .before .before .before in
+    let noting = c .before .before .before .note-result in
+    let v = c .before .before .before .before .before .before .before .v .given in
+    let g = c .before .before .before .before .before .before .before .before .before in
     let t = g .before .before in
     let l = t .before .loop in
-    let call = t .before .before .before .before .before .column-list in
-    let rule = ruleOf (t .before .before .before .before .before .before .before .before .before .before .before .before .before .before .args .c) in
-    let all = call .last .1 .1 .1 .0 in
-    let us = take (call .result) all in
+    let q = t .before .before .before .before .before .before .before .before .before in
+    let component = q .before .before .before .before .before .before .before .before .before .args .c in
+    let rule : ℤ → Result ℤ = λ z. ruleOf component z z in
+    let all = q .column-list .last .1 .1 .1 .0 in
+    let us = take (q .column-list .result) all in
     let x = toZ w64 (ofZ w64 (getD all (l .i) (pos 0))) in
     let read : x ≡ getD all (l .i) (pos 0) = search needs in
-    let v = c .before .v .given in
     let got = v .0 .0 in
-    let back : toZ w64 (ofZ w64 got) ≡ got = search needs in
-    let e = answered (λ z. rule z z) all (call .result) (l .i) (g .mapping .result) (t .loop-test .taken) read (g .mapping .ensures) (ap fitting (v .1)) in
-    let next : l .i < length us = omega (arith, begun-length (call .ensures), t .loop-test .taken) in
-    let stored : take (l .i + 1) (set (l .store) (l .i) (toZ w64 (ofZ w64 got))) ≡ take (l .i) (l .store) ++ (got ∷ []) =
-    ap (λ (k : ℕ). take k (set (l .store) (l .i) (toZ w64 (ofZ w64 got)))) (add-one (l .i))
-    ∙ take-suc-set (l .store) (l .i) (toZ w64 (ofZ w64 got)) (result-within t)
-    ∙ ap (λ (z : ℤ). take (l .i) (l .store) ++ (z ∷ [])) back
-    in (
+    let back : toZ w64 (ofZ w64 got) ≡ got = toZ-ofZ (record { sfits = c .before .before .before .before .before .before .known-told .given .0 .1 }) in
+    let e = answered rule all (q .column-list .result) (l .i) (g .mapping .result) (t .loop-test .taken) read (g .mapping .ensures) (ap fitting (v .1)) in
+    let next : l .i < length us = omega (arith, begun-length (q .column-list .ensures), t .loop-test .taken) in (
       omega (arith, t .loop-test .taken),
-      simp length-set (l .inv .1),
+      noting .kept .0 ∙ l .inv .1,
       l .inv .2,
-      l .inv .3
-          ∙ each-ok (λ z. rule z z) us (l .i) (pos 0) (take (l .i) (l .store)) next e
-          ∙ ap (λ (done : List ℤ). behind done (each (λ z. rule z z) (drop (l .i + 1) us))) (sym stored),
+      omega (arith, noting .ensures .0, noting .kept .0),
+      noting .ensures .1,
+      making-more (l .inv .5) (restOf component us (l .i + 1)) back (λ seen. notes-ok eqZ rule us (l .i) seen (pos 0) next e) (noting .ensures .2),
     )
 
 -- ---- the column is written
 
 column-end-requires : tie.Need-column-end-requires Inv-loop μ-loop Inv-product μ-product
 column-end-requires c κs =
-    let t = c .before .before .before .before .before .before .before .before in
+    let t = c .before .before .before .before .before .before .before .before .before .before .before .before in
     let p = t .before .before .before .before .before .before .pre in
     (p .0 .0, p .0 .0, t .product-test .taken)
 
 append-columns-requires : tie.Need-append-columns-requires Inv-loop μ-loop Inv-product μ-product
 append-columns-requires c κs =
     let e = c .before .before .before in
-    let l = e .before .before .loop in
-    let q = e .before .before .before .before .before .before in
-    let o = q .before .before .before .before in
-    let p = o .before .before .before .before .before .pre in (
+    let h = e .before .before in
+    let o = h .before .before .before .before .before .before .before .before .before .before .before .before in
+    let p = o .before .before .before .before .before .pre .1 in (
       (
-        omega (arith, column-few (o .product .j) (p .0 .0) (q .column-list .ensures)),
-        l .inv .1 ∙ o .product .inv .2 ∙ p .1 .1 .0 .results,
+        omega (arith, h .loop .inv .3, results-size h),
+        results-size h,
         omega (arith, e .column-end .ensures .0),
-        omega (arith, e .column-end .ensures .1, p .1 .0),
+        omega (arith, e .column-end .ensures .1, p .0),
         o .product .inv .0 .columns .tally .bound,
       ),
-      arrays-kept (p .1 .1 .1) (o .product .inv .0 .first) (o .product .inv .0 .second),
+      arrays-kept (p .1 .1) (o .product .inv .0 .first) (o .product .inv .0 .second),
     )
 
 product-again : tie.Need-product-again Inv-loop μ-loop Inv-product μ-product
 product-again c =
     let add = c .before .before .before .before .append-columns in
     let e = c .before .before .before .before .before .before .before .before in
-    let l = e .before .before .loop in
-    let q = e .before .before .before .before .before .before in
+    let h = e .before .before in
+    let l = h .loop in
+    let q = h .before .before .before .before .before .before .before .before in
     let o = q .before .before .before .before in
     let s = o .before .before .before .before .before in
     let a = s .args in
     let left = now (a .left) in
-    let call = q .column-list in
-    let rule = ruleOf (a .c) in
-    let us = take (call .result) (call .last .1 .1 .1 .0) in
-    let all : l .i ≡ call .result = omega (arith, e .before .loop-test .left, l .inv .0) in
-    let stop : length us ≤ l .i = omega (arith, begun-length (call .ensures), all) in
-    let column = l .inv .3 ∙ each-end (λ z. rule z z) us (l .i) (pos 0) (take (l .i) (l .store)) stop ∙ ap (λ (k : ℕ). ok (take k (l .store))) all in
-    let results = l .inv .1 ∙ o .product .inv .2 in
-    let room : call .result ≤ length (l .store) = omega (arith, column-few (o .product .j) (s .pre .0 .0) (call .ensures), results, s .pre .1 .1 .0 .results) in
-    let alike = column-alike true (a .c) (formOf (a .f)) left left (o .product .j) (e .column-end .result) (e .column-end .ensures .2) column in (
-      going-more (o .product .inv .0) (l .inv .2) (e .column-end .ensures .1) (stored-list (l .store) room) alike (add .ensures _ (a .n) _) (add .kept .1 .1 .1 .1 .1 .1 .0) (add .kept .1 .1 .1 .1 .1 .1 .1 .0),
-      call .kept .1 .1 .1 .0 ∙ o .product .inv .1,
-      results,
-      call .kept .1 .1 .1 .1 .0 ∙ o .product .inv .3,
+    let us = take (q .column-list .result) (q .column-list .last .1 .1 .1 .0) in
+    let stop : length us ≤ l .i = omega (arith, begun-length (q .column-list .ensures), e .before .loop-test .left) in
+    let made = making-done (l .inv .5) (λ seen. notes-end eqZ (λ z. ruleOf (a .c) z z) us (l .i) seen stop) in
+    let alike = column-alike true (a .c) (formOf (a .f)) left left (o .product .j) (e .column-end .result) (e .column-end .ensures .2) (made .1) in (
+      going-more (o .product .inv .0) (l .inv .2) (e .column-end .ensures .1) (made .2) alike (add .ensures _ (a .n) _) (add .kept .1 .1 .1 .1 .1 .1 .0) (add .kept .1 .1 .1 .1 .1 .1 .1 .0),
+      q .column-list .kept .1 .1 .1 .0 ∙ o .product .inv .1,
+      l .inv .1 ∙ o .product .inv .2,
+      l .inv .4 .size ∙ sym (s .pre .1 .1 .0 .hinted),
     )
 
 -- ---- how the loops are left
@@ -182,7 +191,11 @@ sizes c =
     let o = c .before .product in
     ⊎-elim
     (λ w. (ap length (w .1) ∙ o .inv .1, ap length (w .2) ∙ o .inv .2, ap length (w .3) ∙ o .inv .3))
-    (λ w. (ap length (w .13) ∙ w .3 .kept .1 .1 .1 .0 ∙ o .inv .1, ap length (w .14) ∙ w .7 .inv .1 ∙ o .inv .2, ap length (w .15) ∙ w .3 .kept .1 .1 .1 .1 .0 ∙ o .inv .3))
+    (λ w. (
+      ap length (w .17) ∙ w .3 .kept .1 .1 .1 .0 ∙ o .inv .1,
+      ap length (w .18) ∙ w .11 .inv .1 ∙ o .inv .2,
+      ap length (w .19) ∙ w .11 .inv .4 .size ∙ sym (c .before .before .before .before .before .before .pre .1 .1 .0 .hinted),
+    ))
     (c .product-test .came)
 
 ended : (c : tie.Left-product Inv-loop μ-loop Inv-product μ-product) →
@@ -191,19 +204,20 @@ ended : (c : tie.Left-product Inv-loop μ-loop Inv-product μ-product) →
     Ended (formOf (a .f)) (columnIn true (a .c) (formOf (a .f)) (now (a .left)) (now (a .left))) (a .n) (o .numbers) (o .values) (c .product-test .code) (o .t)
 ended c =
     let o = c .before .product in
-    let rule = ruleOf (c .before .before .before .before .before .before .args .c) in
+    let component = c .before .before .before .before .before .before .args .c in
+    let rule : ℤ → Result ℤ = λ z. ruleOf component z z in
     ⊎-elim
     (λ w. going-done (o .inv .0) (w .4) (w .0 .left))
     (λ w.
     let call = w .3 in
-    let l = w .7 in
+    let l = w .11 in
     let all = call .last .1 .1 .1 .0 in
     let us = take (call .result) all in
     let x = toZ w64 (ofZ w64 (getD all (l .i) (pos 0))) in
     let read : x ≡ getD all (l .i) (pos 0) = search needs in
-    let e = answered (λ z. rule z z) all (call .result) (l .i) (w .10 .result) (w .8 .taken) read (w .10 .ensures) (ap fitting (w .12 .given .1)) in
-    let next : l .i < length us = omega (arith, begun-length (call .ensures), w .8 .taken) in
-    going-failed (o .inv .0) (w .16) (w .0 .taken) (l .inv .3 ∙ each-bad (λ z. rule z z) us (l .i) (pos 0) (take (l .i) (l .store)) next e))
+    let e = answered rule all (call .result) (l .i) (w .14 .result) (w .12 .taken) read (w .14 .ensures) (ap fitting (w .16 .given .1)) in
+    let next : l .i < length us = omega (arith, begun-length (call .ensures), w .12 .taken) in
+    going-failed (o .inv .0) (w .20) (w .0 .taken) (making-refused (l .inv .5) (λ seen. notes-bad eqZ rule us (l .i) seen (pos 0) next e)))
     (c .product-test .came)
 
 returns : tie.Need-returns Inv-loop μ-loop Inv-product μ-product
@@ -225,15 +239,15 @@ maps-into-spec =
     μ-product
     product-holds
     column-list-requires
+    clear-hints-requires
     loop-holds
     mul-a
     slice-copy-out-a
     (λ c κs. search needs)
     (λ c. search needs)
     (λ c. search needs)
-    mul-v
-    slice-set-from-v
     (λ c. search needs)
+    note-result-requires
     (λ c. search needs)
     loop-again
     column-end-requires
