@@ -5,11 +5,9 @@ use mathlib.Core.List.{List, [], _∷_, _++_, append-assoc, append-nil}
 use mathlib.Core.Logic.{⊎-elim}
 use Prim.Native.Nat.{ℕ, zero, suc, _+_, _-_, _<_, _≤_}
 use native.Mathlib.Nat.{add-zero}
-use native.Mathlib.Numerals.{add-one}
 use native.Mathlib.Omega.{arith}
 use lib.IntN.{ℤ}
-use lib.Seq.{drop-cons}
-use lib.ListN.{length, drop, getD, drop-of-length-le, length-map, length-replicate}
+use lib.ListN.{length, getD, length-map, length-replicate}
 use lib.Dec.{eqb}
 use borrow.Author.Tests.{eqb-true, ne-eqb}
 use Rattle.numbers.specs.Result.{Result, ok, refused, andThen}
@@ -91,25 +89,6 @@ module _ {Y : Type 0} where
   pub from-end : (f : ℕ → Result Y) (n j : ℕ) (done : List Y) → n ≤ j → behind done (eachFrom f (n - j) j) ≡ ok done
   unfolding eachFrom
   from-end f n j done h = let z : n - j ≡ 0 = omega arith in ap (λ (k : ℕ). behind done (eachFrom f k j)) z ∙ behind-end done
-
-  -- one value more, of a rule on a list
-  module _ {X : Type 0} (rule : X → Result Y) (xs : List X) (i : ℕ) (d : X) (done : List Y) where
-    pub each-ok : {z : Y} → i < length xs → rule (getD xs i d) ≡ ok z → behind done (each rule (drop i xs)) ≡ behind (done ++ (z ∷ [])) (each rule (drop (i + 1) xs))
-    unfolding each joins
-    each-ok {z} h e =
-        ap (λ (l : List X). behind done (each rule l)) (drop-cons xs i d h)
-        ∙ ap (λ (g : Result Y). behind done (joins g (each rule (drop (suc i) xs)))) e
-        ∙ joined-behind done z (each rule (drop (suc i) xs))
-        ∙ ap (λ (k : ℕ). behind (done ++ (z ∷ [])) (each rule (drop k xs))) (sym (add-one i))
-
-    pub each-bad : {k : ℕ} → i < length xs → rule (getD xs i d) ≡ refused k → behind done (each rule (drop i xs)) ≡ refused k
-    unfolding each joins
-    each-bad h e =
-        ap (λ (l : List X). behind done (each rule l)) (drop-cons xs i d h) ∙ ap (λ (g : Result Y). behind done (joins g (each rule (drop (suc i) xs)))) e
-
-    pub each-end : length xs ≤ i → behind done (each rule (drop i xs)) ≡ ok done
-    unfolding each
-    each-end h = ap (λ (l : List X). behind done (each rule l)) (drop-of-length-le xs h) ∙ behind-end done
 
   pub from-same : (f g : ℕ → Result Y) (n i : ℕ) → ((k : ℕ) → f k ≡ g k) → eachFrom f n i ≡ eachFrom g n i
   unfolding eachFrom joins

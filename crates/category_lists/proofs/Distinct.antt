@@ -1,7 +1,7 @@
 -- Lists that are mapped, combined or united have no repeats, whatever the operands' lists have. 02, S-6: "each user of that mapping may rely on lists without
 -- repeats". Assumes nothing.
-use mathlib.Core.Path.{_≡_, refl, sym, ap, subst, _∙_}
-use mathlib.Core.Bool.{Bool, true, cond}
+use mathlib.Core.Path.{_≡_, refl, subst}
+use mathlib.Core.Bool.{Bool, true}
 use mathlib.Core.List.{List, [], _∷_, _++_}
 use Prim.Native.Nat.{ℕ}
 use Rattle.numbers.specs.Result.{Result, ok}

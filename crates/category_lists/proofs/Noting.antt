@@ -18,6 +18,7 @@ use Rattle.utilities.specs.Lists.{noted, firstsFrom, firsts}
 use Rattle.utilities.specs.Columns.{each}
 use Rattle.category_lists.specs.Categories.{image}
 use Rattle.category_lists.specs.Answers.{Stored}
+use Rattle.category_lists.proofs.Gathering.{stored-list}
 
 module _ {X : Type 0} (same : X → X → Bool) where
   unfoldable pub notedFrom : (X → Result X) → List X → List X → Result (List X)
@@ -68,7 +69,7 @@ pub record Making (k : ℕ) (store : List ℤ) (rest : List ℤ → Result (List
   pub left : whole ≡ rest seen
 
 pub making-start : (store : List ℤ) (rest : List ℤ → Result (List ℤ)) {whole : Result (List ℤ)} → whole ≡ rest [] → Making 0 store rest whole
-making-start store rest e = record { seen = []; held = record { holds = λ h. refl; exceeds = λ h. absurd (omega (arith, h)) }; left = e }
+making-start store rest e = record { seen = []; held = stored-list store (omega arith); left = e }
 
 module _ {k : ℕ} {store : List ℤ} {rest : List ℤ → Result (List ℤ)} {whole : Result (List ℤ)} (s : Making k store rest whole) where
   pub making-same : (rest′ : List ℤ → Result (List ℤ)) → ((seen : List ℤ) → rest seen ≡ rest′ seen) → Making k store rest′ whole

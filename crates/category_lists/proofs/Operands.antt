@@ -1,25 +1,24 @@
 -- An operand's lists: what its sheet has room for, list j category by category, the list of a column, and what the code reads of it. Assumes nothing.
-use mathlib.Core.Path.{_≡_, refl, sym, ap, subst, _∙_}
-use mathlib.Core.Bool.{Bool, true, false, cond}
+use mathlib.Core.Path.{_≡_, sym, ap, subst, _∙_}
+use mathlib.Core.Bool.{cond}
 use mathlib.Core.List.{List, [], _∷_, map}
-use Prim.Native.Nat.{ℕ, zero, suc, _+_, _-_, _<_, _≤_}
+use Prim.Native.Nat.{ℕ, suc, _+_, _-_, _<_, _≤_}
 use native.Mathlib.Nat.{sub-zero}
 use native.Mathlib.Omega.{arith}
 use lib.IntN.{ℤ, pos}
-use lib.ListN.{length, take, getD, length-map, List·getD-map, List·getD-eq-default}
+use lib.ListN.{length, take, getD, length-map, List·getD-map}
 use lib.Seq.{length-take-le, getD-take}
-use lib.Dec.{eqb, ltb}
-use borrow.Author.Tests.{ltb-true, ltb-false, eq-eqb, ne-eqb}
+use lib.Dec.{eqb}
+use borrow.Author.Tests.{eq-eqb, ne-eqb}
 use Rattle.numbers.specs.Result.{Result}
 use Rattle.numbers.specs.Kind.{fitting, eqZ}
 use Rattle.numbers.specs.declared.Checked.{Checked}
 use Rattle.utilities.specs.Lists.{noted, firstsFrom, firsts}
 use Rattle.utilities.specs.Noted.{Begins}
 use Rattle.utilities.proofs.Built.{listFrom-length, listFrom-at}
-use Rattle.utilities.proofs.Firsts.{firsts-length}
 use Rattle.utilities.proofs.Begins.{begins-none, begins-note, begins-room}
 use Rattle.base.specs.Form.{Form, groupCount, listCount, categoryCount}
-use Rattle.base.specs.Decode.{asWhole, prepended, listNumber, categoryAt, listAt, lists}
+use Rattle.base.specs.Decode.{listNumber, categoryAt, listAt, lists}
 use Rattle.base.specs.Sized.{SizesIn, ListsFit}
 use Rattle.base.specs.declared.Sizes.{Sizes}
 use Rattle.base.proofs.Passed.{passed, sized, long-enough, lists-fit}
@@ -34,10 +33,6 @@ module _ {F : Form} {s : List ℕ} (l : Listed F s) where
 
   pub listed-fits : {r : Sizes} → SizesIn F s r → ListsFit F s (r .groups) (r .lists) (r .categories)
   listed-fits a = lists-fit (sized F s (l .passed) a) (l .no-range)
-
-prepended-length : {X : Type 0} (b : Bool) (x : X) (xs : List X) → length (prepended b x xs) ≤ length xs + 1
-prepended-length true x xs = omega arith
-prepended-length false x xs = omega arith
 
 module _ (F : Form) (s : List ℕ) where
   pub lists-length : {X : Type 0} (read : ℕ → X) → length (lists F s read) ≡ listCount F s
@@ -70,22 +65,6 @@ module _ (F : Form) (s : List ℕ) where
     pub list-skips : (listNumber F s g i ≡ j → ⊥) → listAt F s read g t j (t - i) i ≡ listAt F s read g t j (t - (i + 1)) (i + 1)
     unfolding listAt
     list-skips e = ap (λ (k : ℕ). listAt F s read g t j k i) one-less ∙ rw (ne-eqb (listNumber F s g i) j e)
-
-  -- a list has at most as many values as there are categories
-  list-few : {X : Type 0} (read : ℕ → X) (g t j n i : ℕ) → length (listAt F s read g t j n i) ≤ n
-  unfolding listAt
-  list-few read g t j zero i = omega arith
-  list-few read g t j (suc n) i =
-      omega (arith, prepended-length (eqb (listNumber F s g i) j) (read (categoryAt F s g t i)) (listAt F s read g t j n (i + 1)), list-few read g t j n (i + 1))
-
-  lists-few : {X : Type 0} (read : ℕ → X) (j : ℕ) → length (getD (lists F s read) j []) ≤ categoryCount F s
-  lists-few read j = go (ltb j (listCount F s)) refl
-    where
-      go : (b : Bool) → ltb j (listCount F s) ≡ b → length (getD (lists F s read) j []) ≤ categoryCount F s
-      go true e = rw (lists-at read j (ltb-true j (listCount F s) e)) (list-few read (groupCount F s) (categoryCount F s) j (categoryCount F s) 0)
-      go false e =
-          let past : length (lists F s read) ≤ j = omega (arith, lists-length read, ltb-false j (listCount F s) e) in
-          rw (List·getD-eq-default (lists F s read) [] past) (omega arith)
 
   pub list-end : {X : Type 0} (read : ℕ → X) (g t j i : ℕ) → t ≤ i → listAt F s read g t j (t - i) i ≡ []
   unfolding listAt
@@ -142,13 +121,6 @@ pick-map f ls j =
 module _ {values : List ℤ} {n : ℕ} {out₀ out : List ℤ} (b : Begins values n out₀ out) where
   pub begun-length : length (take n out) ≡ n
   begun-length = length-take-le n out (begins-room b)
-
--- a column's list has no more values than a sheet may have
-pub column-few : {F : Form} {s : List ℕ} (j : ℕ) {n : ℕ} {out₀ out : List ℤ} → Listed F s → Begins (firsts eqZ (pick (lists F s asWhole) j)) n out₀ out → n ≤ F .categoryLimit
-column-few {F} {s} j l b =
-    let list = pick (lists F s asWhole) j in
-    let few : length list ≤ categoryCount F s = lists-few F s asWhole (cond (eqb (length (lists F s asWhole)) 1) 0 j) in
-    omega (arith, b .count, firsts-length eqZ list, few, passed F s (l .passed) .categoriesWithin)
 
 -- the rule's answer on value i of a list, from the code's answer on what it read of it
 pub answered : (rule : ℤ → Result ℤ) (list : List ℤ) (n i : ℕ) {x : ℤ} (q : Checked) {o : Result ℤ}

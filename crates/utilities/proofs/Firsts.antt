@@ -7,7 +7,7 @@ use native.Mathlib.Numerals.{add-one}
 use native.Mathlib.Omega.{arith}
 use lib.ListN.{length, take, drop, getD, length-append}
 use lib.Seq.{take-suc, take-add}
-use Rattle.utilities.specs.Lists.{has, noted, firstsFrom, firsts}
+use Rattle.utilities.specs.Lists.{has, noted, firstsFrom}
 
 or-false : (t : Bool) → t || false ≡ t
 or-false true = refl
@@ -79,13 +79,3 @@ module _ {X : Type 0} (same : X → X → Bool) where
   unfolding firstsFrom
   firstsFrom-append seen [] ys = refl
   firstsFrom-append seen (x ∷ xs) ys = firstsFrom-append (noted same seen x) xs ys
-
-  pub firstsFrom-length : (seen xs : List X) → length (firstsFrom same seen xs) ≤ length seen + length xs
-  unfolding firstsFrom
-  firstsFrom-length seen [] = omega arith
-  firstsFrom-length seen (x ∷ xs) = omega (arith, firstsFrom-length (noted same seen x) xs, noted-length seen x)
-
-  -- the list never grows
-  pub firsts-length : (xs : List X) → length (firsts same xs) ≤ length xs
-  unfolding firsts
-  firsts-length xs = omega (arith, firstsFrom-length [] xs)
