@@ -20,7 +20,7 @@ use Rattle.base.specs.Encode.{valueCount, textSize}
 use Rattle.base.specs.Sheet.{Nature, wholeLists}
 use Rattle.base.specs.declared.Component.{Component}
 use Rattle.base.specs.declared.Component.the-variants as C
-use Rattle.category_lists.specs.Categories.{categoryRule, pairs, product, mapped, union, keptTo, textKept, kept, limited}
+use Rattle.category_lists.specs.Categories.{categoryRule, pairs, product, image, mapped, union, keptTo, textKept, kept, limited}
 use Rattle.derived.proofs.Answers.{ok-same, some-same}
 use Rattle.containment.specs.Exact.{Side, exact}
 use Rattle.containment.specs.Demand.{entryFor, InList, OneOrPerColumn}
@@ -37,7 +37,7 @@ Found {X} g cs = (v : X) × (g ≡ ok v) × List·Memᴰ v cs
 in-list : {X : Type 0} {v : X} {l m : List X} → l ≡ m → List·Memᴰ v l → List·Memᴰ v m
 in-list {X} {v} e h = subst (λ (l : List X). List·Memᴰ v l) e h
 
-pub each-found : {X Y : Type 0} (f : X → Result Y) (a : X) (us : List X) {cs : List Y} → each f us ≡ ok cs → List·Memᴰ a us → Found (f a) cs
+each-found : {X Y : Type 0} (f : X → Result Y) (a : X) (us : List X) {cs : List Y} → each f us ≡ ok cs → List·Memᴰ a us → Found (f a) cs
 unfolding each
 each-found f a (u ∷ us) e (List·Memᴰ·head h) =
     let s = then-ok-inv (f u) _ e in
@@ -64,13 +64,22 @@ pairs-found rule a b (u ∷ us) bs e (List·Memᴰ·tail m) n =
     (r .0, r .1, in-list (ok-same (t .after)) (Memᴰ·append-right (s .value) (r .2)))
 
 module _ {X : Type 0} (same : X → X → Bool) (equal : Equals same) where
+  -- nor by keeping first occurrences only
+  found-once : {g : Result X} {cs ds : List X} → ok (firsts same cs) ≡ ok ds → Found g cs → Found g ds
+  found-once {cs} e f = (f .0, f .1, in-list (ok-same e) (firsts-all same equal (f .0) cs (f .2)))
+
   pub product-found : (rule : X → X → Result X) (a b : X) (us bs : List X) {cs : List X}
       → product same rule us bs ≡ ok cs → List·Memᴰ a us → List·Memᴰ b bs → Found (rule a b) cs
   unfolding product
   product-found rule a b us bs e m n =
       let s = then-ok-inv (pairs rule us bs) _ e in
-      let r = pairs-found rule a b us bs (s .is) m n in
-      (r .0, r .1, in-list (ok-same (s .after)) (firsts-all same equal (r .0) (s .value) (r .2)))
+      found-once (s .after) (pairs-found rule a b us bs (s .is) m n)
+
+  pub image-found : (rule : X → X → Result X) (a : X) (us : List X) {cs : List X} → image same rule us ≡ ok cs → List·Memᴰ a us → Found (rule a a) cs
+  unfolding image
+  image-found rule a us e m =
+      let s = then-ok-inv (each (λ a. rule a a) us) _ e in
+      found-once (s .after) (each-found (λ a. rule a a) a us (s .is) m)
 
   -- the operand's lists lose only repeats
   elem-firsts : (ls : List (List X)) (j : ℕ) (a : X) → InList (getElem? ls j) a → InList (getElem? (map (firsts same) ls) j) a
@@ -108,9 +117,9 @@ module _ {X : Type 0} (same : X → X → Bool) where
 
   -- mapped lists, by an operation that reads the left alone
   pub mapped-paired : (rule : X → X → Result X) (columns : ℕ) (ls : List (List X)) {ns : List (List X)} → mapped same rule columns ls ≡ ok ns
-      → eachPair (λ l m. each (λ a. rule a a) l) (standardized same columns ls) (standardized same columns ls) ≡ ok ns
+      → eachPair (λ l m. image same rule l) (standardized same columns ls) (standardized same columns ls) ≡ ok ns
   unfolding mapped
-  mapped-paired rule columns ls e = sym (each-twice (λ l m. each (λ a. rule a a) l) (standardized same columns ls)) ∙ e
+  mapped-paired rule columns ls e = sym (each-twice (λ l m. image same rule l) (standardized same columns ls)) ∙ e
 
 -- what was found is the exact result
 pub found-exact : (side : Side) (c : Component) (type : ℕ) (rule : ℤ → ℤ → Result ℤ) (a b v : ℤ) (l : List ℤ)

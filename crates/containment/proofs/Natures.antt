@@ -10,14 +10,13 @@ use Rattle.numbers.specs.Kind.{Span, whole, eqZ}
 use Rattle.numbers.proofs.Choices.{eqZ-true}
 use Rattle.numbers.proofs.Parts.{abs-zero}
 use Rattle.numbers.proofs.Results.{never, then-ok-inv}
-use Rattle.utilities.specs.Columns.{each}
 use Rattle.base.specs.Form.{Form}
 use Rattle.base.specs.Sheet.{Nature, absent, wholeRange, floatRange, wholeLists, boolLists, floatLists, textLists}
 use Rattle.base.specs.declared.Component.{Component}
 use Rattle.base.specs.declared.Component.the-variants as C
 use Rattle.ends.specs.Ends.{endRule}
 use Rattle.ends.specs.Ranges.{wholeRule, rangePair, rangeAlone}
-use Rattle.category_lists.specs.Categories.{categoryRule, ruled, product, combined, mapped, union, united, limited}
+use Rattle.category_lists.specs.Categories.{categoryRule, ruled, product, combined, image, mapped, union, united, limited}
 use Rattle.calls.specs.Natures.{listsUnited, listsPair, listsAlone, wholeRangeWith, listsWith, twoNatures, binaryNature, poolNature, unaryNature}
 use Rattle.derived.proofs.Answers.{ok-same, checked-rest}
 use Rattle.containment.specs.Exact.{Side, exact}
@@ -26,7 +25,7 @@ use Rattle.containment.specs.Asks.{Defined, Asks}
 use Rattle.containment.specs.Good.{Fitting, Spread, Admitted}
 use Rattle.containment.proofs.Entries.{span-defined}
 use Rattle.containment.proofs.Ranges.{pair-many, pair-keeps, alone-many, alone-keeps}
-use Rattle.containment.proofs.Lists.{each-found, product-found, paired-many, paired-keeps, mapped-paired, found-exact, union-exact, limited-ok}
+use Rattle.containment.proofs.Lists.{product-found, image-found, paired-many, paired-keeps, mapped-paired, found-exact, union-exact, limited-ok}
 
 -- ---- what is admitted
 
@@ -169,14 +168,14 @@ module _ (side : Side) (c : Component) (type columns : ℕ) where
       alone-lists ls o e =
           let f = ruled-inv (categoryRule c type) (λ rule. limited limit (mapped eqZ rule columns ls)) (checked-rest _ _ e) in
           let g = limited-ok limit (mapped eqZ (f .0) columns ls) (f .2) in
-          let op : List ℤ → List ℤ → Result (List ℤ) = λ l m. each (λ a. f .0 a a) l in
+          let op : List ℤ → List ℤ → Result (List ℤ) = λ l m. image eqZ (f .0) l in
           let e = mapped-paired eqZ (f .0) columns ls (g .1) in
           subst (λ (k : Nature). Derived side c columns (wholeLists ls) r k) (g .2)
           (record {
             fits = inr (paired-many eqZ op columns ls ls (g .0) o o e);
             keeps = λ j h a b v q m n w.
                 paired-keeps eqZ op columns ls ls (g .0) o o e eqZ-true a a v
-                (λ x y z e m n. found-exact side c type (f .0) a a v z (f .1) (each-found (λ a. f .0 a a) a x e m) (left a b ∙ w)) j h m m;
+                (λ x y z e m n. found-exact side c type (f .0) a a v z (f .1) (image-found eqZ eqZ-true (f .0) a x e m) (left a b ∙ w)) j h m m;
           })
 
       pub unary-derived : (l : Nature) {k : Nature} → Spread l columns → unaryNature limit c type columns l ≡ ok k → Derived side c columns l r k

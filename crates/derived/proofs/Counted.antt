@@ -28,15 +28,15 @@ use Rattle.base.specs.declared.Family.{Family}
 use Rattle.base.specs.declared.Family.the-variants as Fam
 use Rattle.ends.specs.Ends.{endRule}
 use Rattle.ends.specs.Ranges.{wholeRule, rangePair, rangeAlone}
-use Rattle.category_lists.specs.Categories.{categoryRule, textRule, sameText, product, combined, mapped, union, united, limited}
+use Rattle.category_lists.specs.Categories.{categoryRule, textRule, sameText, product, combined, image, mapped, union, united, limited}
 use Rattle.shape.specs.Shape.{columnsOf}
 use Rattle.orders.proofs.Passing.{Passing}
 use Rattle.calls.specs.Natures.{wholeListsOf, boolListsOf, textListsOf, listChecks, bothListChecks, unitedNature, listsUnited, combinedNature, listsPair, listsAlone, twoNatures, binaryNature, poolNature, unaryNature}
 use Rattle.calls.specs.Derive.{derive}
 use Rattle.derived.proofs.Each.{each-length, pair-length}
-use Rattle.derived.proofs.Values.{IfOk, value-is, value-known, value-then, value-passed, passed-so}
+use Rattle.derived.proofs.Values.{IfOk, value-known, value-then, value-passed, passed-so}
 use Rattle.derived.proofs.Natures.{two-natures, categories-together, kept-to, kept-value, ruled-value}
-use Rattle.derived.proofs.Families.{natureBy, OverColumns, by-family}
+use Rattle.derived.proofs.Families.{natureBy, of-derived}
 
 -- ---- lists that 18 or 29 has counted
 
@@ -184,7 +184,7 @@ module _ (c : Component) (type columns : ℕ) where
       value-passed (PerColumn columns) (listChecks columns (wholeLists ls)) _
       (λ passing.
       ruled-value (PerColumn columns) (categoryRule c type) _
-      (λ rule. limited-counted limit (mapped eqZ rule columns ls) (maps-full columns eqZ (each (λ a. rule a a)) ls (not-false _ (passing .1 .1 .0)))))
+      (λ rule. limited-counted limit (mapped eqZ rule columns ls) (maps-full columns eqZ (image eqZ rule) ls (not-false _ (passing .1 .1 .0)))))
   unary-counted limit (boolLists ls) = value-passed (PerColumn columns) (listChecks columns (boolLists ls)) _ (λ passing. tt)
   unary-counted limit (floatLists ls) = value-passed (PerColumn columns) (listChecks columns (floatLists ls)) _ (λ passing. tt)
   unary-counted limit (textLists ls) = value-passed (PerColumn columns) (listChecks columns (textLists ls)) _ (λ passing. tt)
@@ -221,13 +221,9 @@ module _ (F : Form) (c : Component) (type columns : ℕ) where
 -- ---- sheets
 
 module _ (F : Form) (c : Component) (l r s : Sheet) where
-  of-derived : (P : ℕ → Nature → Type 0) → ((columns : ℕ) → IfOk (P columns) (natureBy F c (familyOf c) columns l r)) → derive F c l r ≡ ok s → OverColumns P s
-  unfolding derive
-  of-derived P h e = value-is (OverColumns P) (derive F c l r) (by-family F c l r P (familyOf c) (λ columns passing. h columns)) e
-
   pub derived-counted : derive F c l r ≡ ok s → (s .nature ≡ absent) ⊎ (s .fields .columns ≡ some (entryCount (s .nature)))
   derived-counted e =
-      let h = of-derived PerColumn (go (familyOf c)) e in
+      let h = of-derived F c l r PerColumn (go (familyOf c)) e in
       ⊎-elim (λ a. inl a) (λ a. inr (h .0 ∙ ap some (sym a))) (h .1)
     where
       go : (f : Family) (columns : ℕ) → IfOk (PerColumn columns) (natureBy F c f columns l r)
@@ -237,11 +233,11 @@ module _ (F : Form) (c : Component) (l r s : Sheet) where
       go Fam.Pool columns = pool-counted c (l .fields .dataType) columns (l .nature) (r .nature)
 
   pub maps-counted : familyOf c ≡ Fam.Unary → derive F c l r ≡ ok s → isLists (l .nature) ≡ true → spreads (columnsOf (s .fields)) (entryCount (l .nature)) ≡ true
-  maps-counted u e p = of-derived (λ columns k. Spread columns (l .nature)) (λ columns. rw u (alone-spread F c (l .fields .dataType) columns (l .nature) p)) e .1
+  maps-counted u e p = of-derived F c l r (λ columns k. Spread columns (l .nature)) (λ columns. rw u (alone-spread F c (l .fields .dataType) columns (l .nature) p)) e .1
 
   pub pairs-counted : isUnary (familyOf c) ≡ false → derive F c l r ≡ ok s → isLists (l .nature) ≡ true → isLists (r .nature) ≡ true
       → (spreads (columnsOf (s .fields)) (entryCount (l .nature)) ≡ true) × (spreads (columnsOf (s .fields)) (entryCount (r .nature)) ≡ true)
-  pairs-counted u e p q = of-derived (λ columns k. BothSpread columns (l .nature) (r .nature)) (go (familyOf c) u) e .1
+  pairs-counted u e p q = of-derived F c l r (λ columns k. BothSpread columns (l .nature) (r .nature)) (go (familyOf c) u) e .1
     where
       go : (f : Family) → isUnary f ≡ false → (columns : ℕ) → IfOk (λ k. BothSpread columns (l .nature) (r .nature)) (natureBy F c f columns l r)
       go Fam.Unary u columns = absurd (subst T u tt)

@@ -1,15 +1,16 @@
 -- The sheet that a component derives, by its family: it states the output's columns, and what holds of the nature over these holds of the sheet
--- (`by-family`). Assumes nothing.
+-- (`by-family`), and so what holds of it over any columns (`of-derived`). Assumes nothing.
 use mathlib.Core.Path.{_≡_, refl, subst}
 use mathlib.Core.Bool.{false, not}
 use mathlib.Core.List.{List}
 use mathlib.Core.Option.{Option, none, some, Option·getD}
 use Prim.Native.Nat.{ℕ}
 use lib.Dec.{T}
-use Rattle.numbers.specs.Result.{Result, Check}
+use Rattle.numbers.specs.Result.{Result, ok, Check}
 use Rattle.base.specs.Form.{Form}
 use Rattle.base.specs.Sheet.{Nature, Sheet}
 use Rattle.base.specs.Bounds.{isPresent}
+use Rattle.base.specs.Components.{familyOf}
 use Rattle.base.specs.declared.Component.{Component}
 use Rattle.base.specs.declared.Family.{Family}
 use Rattle.base.specs.declared.Family.the-variants as Fam
@@ -19,8 +20,8 @@ use Rattle.category_lists.specs.Categories.{kept}
 use Rattle.orders.specs.Orders.{boundChecks, unaryChecks, pairChecks, copyChecks, lastChecks, poolChecks}
 use Rattle.orders.proofs.Passing.{Passing, pass-parts}
 use Rattle.calls.specs.Natures.{binaryNature, poolNature, unaryNature}
-use Rattle.calls.specs.Derive.{deriveUnary, derivePair, deriveCopy, derivePool, deriveBy}
-use Rattle.derived.proofs.Values.{IfOk, value-then, value-passed, value-after}
+use Rattle.calls.specs.Derive.{deriveUnary, derivePair, deriveCopy, derivePool, deriveBy, derive}
+use Rattle.derived.proofs.Values.{IfOk, value-is, value-then, value-passed, value-after}
 use Rattle.derived.proofs.Natures.{kept-value}
 
 -- a family's checks in front of the nature
@@ -73,3 +74,7 @@ module _ (F : Form) (c : Component) (l r : Sheet) (P : ℕ → Nature → Type 0
       value-then (P columns) (OverColumns P) (natureBy F c Fam.Pool columns l r) _ (h columns passing)
       (λ k p. value-after (OverColumns P) (rowsSum (l .fields .rows) (r .fields .rows)) _
       (λ rows. value-then (P columns) (OverColumns P) (kept F k) _ (kept-value (P columns) F k p) (λ k′ p′. (refl, p′)))))
+
+  pub of-derived : {s : Sheet} → ((columns : ℕ) → IfOk (P columns) (natureBy F c (familyOf c) columns l r)) → derive F c l r ≡ ok s → OverColumns P s
+  unfolding derive
+  of-derived h e = value-is (OverColumns P) (derive F c l r) (by-family (familyOf c) (λ columns passing. h columns)) e

@@ -27,7 +27,7 @@ use Rattle.base.specs.declared.Component.{Component}
 use Rattle.base.specs.declared.Component.the-variants as C
 use Rattle.ends.specs.Ends.{endRule}
 use Rattle.ends.specs.Ranges.{wholeRule, rangePair, rangeAlone}
-use Rattle.category_lists.specs.Categories.{remainder, modWhole, powerWhole, categoryRule, ruled, textRule, sameText, pairs, product, combined, mapped, union, united, keptTo, textKept, kept, limited}
+use Rattle.category_lists.specs.Categories.{remainder, modWhole, powerWhole, categoryRule, ruled, textRule, sameText, pairs, product, combined, image, mapped, union, united, keptTo, textKept, kept, limited}
 use Rattle.calls.specs.Natures.{wholeListsOf, boolListsOf, textListsOf, unitedNature, listsUnited, combinedNature, listsPair, listsAlone, twoNatures, binaryNature, poolNature, unaryNature}
 use Rattle.round_trip.specs.WellFormed.{Each, Whole, Double, Bits, Byte, SpanFits, NatureFits}
 use Rattle.derived.specs.Held.{ValuesAllowed}
@@ -134,6 +134,11 @@ module _ {X : Type 0} (P : X → Type 0) (same : X → X → Bool) where
     product-fits : (us bs : List X) → Each P us → Each P bs → Gives (Each P) (product same rule us bs)
     unfolding product
     product-fits us bs p q = gives-then (Each P) (Each P) (pairs rule us bs) _ (pairs-fit us bs p q) (λ cs f. each-firsts P same cs f)
+
+    image-fits : (us : List X) → Each P us → Gives (Each P) (image same rule us)
+    unfolding image
+    image-fits us p =
+        gives-then (Each P) (Each P) (each (λ a. rule a a) us) _ (each-gives P P (λ a. rule a a) (λ a f. fit a a f f) us p) (λ cs f. each-firsts P same cs f)
 
   union-fits : (us bs : List X) → Each P us → Each P bs → Gives (Each P) (union same us bs)
   unfolding union
@@ -371,11 +376,11 @@ module _ {F : Form} (laid : Laid F) where
           gives-checked (Kept F) _ _ refl
           (ruled-kept Whole (categoryRule c type) _ (category-fits c type)
           (λ rule f.
-          limited-kept (each (each (λ a. rule a a)) us)
-          (gives-more (Each Wholes) (Few F Wholes) (each (each (λ a. rule a a)) us)
-          (each-gives Wholes Wholes (each (λ a. rule a a)) (λ l q. each-gives Whole Whole (λ a. rule a a) (λ a w. f a a w w) l q) us (standard-each Whole eqZ columns ls p))
+          limited-kept (each (image eqZ rule) us)
+          (gives-more (Each Wholes) (Few F Wholes) (each (image eqZ rule) us)
+          (each-gives Wholes Wholes (image eqZ rule) (image-fits Whole eqZ rule f) us (standard-each Whole eqZ columns ls p))
           (λ ns e m.
-          let a = each-length (each (λ a. rule a a)) us e in
+          let a = each-length (image eqZ rule) us e in
           let b = standard-within eqZ columns (F .listLimit) ls listed n in
           (omega arith, m)))))
 

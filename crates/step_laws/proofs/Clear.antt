@@ -24,7 +24,7 @@ use Rattle.base.specs.declared.Component.{Component}
 use Rattle.base.specs.declared.Component.the-variants as C
 use Rattle.ends.specs.Ends.{both, present, fromTwo, fromOne, fromBoth, addEnds, subEnds, negEnds, absLower, absUpper, absEnds, corners, mulCorners, mulEnds, divCorners, divUpper, divLower, divPresent, divBy, divEnds, modEnds, poolEnds, endRule}
 use Rattle.ends.specs.Ranges.{wholeRule, rangePair, rangeAlone}
-use Rattle.category_lists.specs.Categories.{categoryRule, textRule, pairs, product, combined, mapped, union, united, keptTo, textKept, kept, limited}
+use Rattle.category_lists.specs.Categories.{categoryRule, textRule, pairs, product, combined, image, mapped, union, united, keptTo, textKept, kept, limited}
 use Rattle.shape.specs.Shape.{rowsSum}
 use Rattle.orders.specs.Parts.{isIntCopy}
 use Rattle.orders.proofs.Passing.{Passing}
@@ -228,9 +228,13 @@ module _ {X : Type 0} (same : X → X → Bool) (rule : X → X → Result X) (f
   unfolding combined
   combined-clear columns ls ms = each-pair-clear (product same rule) product-clear (standardized same columns ls) (standardized same columns ms)
 
+  image-clear : (us : List X) → Clear (image same rule us)
+  unfolding image
+  image-clear us = then-clear _ (each-clear _ (λ a. f a a) us) (λ cs. value)
+
   pub mapped-clear : (columns : ℕ) (ls : List (List X)) → Clear (mapped same rule columns ls)
   unfolding mapped
-  mapped-clear columns ls = each-clear _ (λ l. each-clear _ (λ a. f a a) l) (standardized same columns ls)
+  mapped-clear columns ls = each-clear (image same rule) image-clear (standardized same columns ls)
 
 module _ {X : Type 0} (same : X → X → Bool) where
   union-clear : (us bs : List X) → Clear (union same us bs)
