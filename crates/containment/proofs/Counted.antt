@@ -22,26 +22,18 @@ use Rattle.base.specs.declared.Family.{Family}
 use Rattle.base.specs.declared.Family.the-variants as Fam
 use Rattle.base.specs.declared.Numbered.{Numbered}
 use Rattle.shape.specs.Shape.{columnsOf}
-use Rattle.shape.specs.Fields.{numbered}
 use Rattle.orders.specs.Orders.{unaryChecks}
 use Rattle.calls.specs.Natures.{unaryNature}
 use Rattle.calls.specs.Derive.{deriveUnary, derive}
 use Rattle.plan_form.specs.Form.{leafCount, leftOf, rightOf}
 use Rattle.derived.proofs.Answers.{ok-same, checked-rest}
+use Rattle.derived.proofs.Derived.{numbered-rest}
 use Rattle.derived.proofs.Counted.{maps-counted, pairs-counted}
 use Rattle.containment.specs.Demand.{OneOrPerColumn, WholeNature, Combines, SpreadsBy, Spreads, Counted, Premises, sheetOf}
 use Rattle.containment.proofs.Slots.{Derives}
 use Rattle.containment.proofs.Accepted.{Accepted, sheet-after}
 
 -- ---- one step
-
--- whatever its number, a sheet states the columns that were derived
-numbered-columns : (f : Family) (k : ℕ) (s : Sheet) → numbered f k s .fields ≡ s .fields
-unfolding numbered
-numbered-columns Fam.Unary k s = refl
-numbered-columns Fam.Pair k s = refl
-numbered-columns Fam.Copy k s = refl
-numbered-columns Fam.Pool k s = refl
 
 -- 29 over some columns
 abbrev Passes : Option ℕ → Nature → Type 0
@@ -66,7 +58,7 @@ module _ {p work after : List ℕ} (a : Accepted p work after) where
     derived = ap₂ (λ (x y : Sheet). derive narrow (d .component) x y) (sheet-after a (leftOf p k)) (sheet-after a (rightOf p k)) ∙ d .derived
 
     step-fields : sheet k .fields ≡ d .sheet .fields
-    step-fields = ap (λ (s : Sheet). s .fields) (sheet-after a k ∙ d .is) ∙ numbered-columns (familyOf (d .component)) k (d .sheet)
+    step-fields = ap (λ (s : Sheet). s .fields) (sheet-after a k ∙ d .is) ∙ numbered-rest (familyOf (d .component)) k (d .sheet) .0
 
     maps-own : familyOf (d .component) ≡ Fam.Unary → leftOf p k ≡ leaf → isLists (sheet leaf .nature) ≡ true → Passes (sheet leaf .fields .columns) (sheet leaf .nature)
     maps-own u i h =

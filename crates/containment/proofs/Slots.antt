@@ -148,7 +148,7 @@ module _ (p : List ℕ) (k : ℕ) (work : List ℕ) (small : k < 2 ^ 32) (room :
   unfolding singleOf
   by-component N.Unlisted h e = absurd (omega arith)
   by-component (N.Is c) h e =
-      single-stepped c h _ (delivery-made (Written narrow-laid c left right k) (step narrow c k left right) out (step-gives narrow-laid c left right l r k small) e)
+      single-stepped c h _ (delivery-made (Written narrow-laid c left right k) (step narrow c k left right) out (step-gives narrow-laid c left right (λ z. l) (λ z. r) k small) e)
 
   pub step-made : stepOn narrow p k work .code ≡ 0 → Stepped p k work (stepOn narrow p k work .bytes)
   unfolding stepOn

@@ -1,6 +1,7 @@
 -- The sheet that a component derives keeps to the form of its operands, for any stored form that is laid out properly: to the limits of its sizes, its
 -- text and its columns, and its numbers fit their places.
 --     derived-sound, numbered-sound    of operands that are `Held`
+--     numbered-rest                    the call's node number changes neither fields nor nature
 --     sound-formed, sound-length       so that its bytes read back, and are no more than the longest sheet's
 -- Assumes nothing.
 use mathlib.Core.Path.{_≡_, refl, subst}
@@ -130,6 +131,14 @@ copy-fields x y p q = record {
   dimensionality = option-whole (x .dimensionality) (y .dimensionality) (p .dimensionality) (q .dimensionality);
   sample = p .sample;
 }
+
+-- whatever the call's node number
+pub numbered-rest : (f : Family) (node : ℕ) (s : Sheet) → (numbered f node s .fields ≡ s .fields) × (numbered f node s .nature ≡ s .nature)
+unfolding numbered
+numbered-rest Fam.Unary node s = (refl, refl)
+numbered-rest Fam.Pair node s = (refl, refl)
+numbered-rest Fam.Copy node s = (refl, refl)
+numbered-rest Fam.Pool node s = (refl, refl)
 
 -- ---- the sheet
 

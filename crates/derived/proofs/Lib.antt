@@ -26,3 +26,5 @@ pub mod Doubles
 pub mod Infinite
 -- As many entries and lists as columns.
 pub mod Counted
+-- No repeats in a list.
+pub mod Distinct

@@ -3,26 +3,30 @@
 --                                         two of categories
 --     categories-together                 two of categories make what categories make together
 --     kept-to, kept-value, ruled-value    what 22, 26 and 28 pass is what it was
+--     mapped-lists, paired-lists, united-lists
+--                                         one or two of categories make nothing, or lists without repeats
 -- Assumes nothing.
 use mathlib.Core.Path.{_≡_, refl, sym, subst}
 use mathlib.Core.Bool.{true}
 use mathlib.Core.List.{List}
 use mathlib.Core.Option.{Option, none, some}
 use Prim.Native.Nat.{ℕ}
-use lib.Dec.{T, ltb}
+use lib.Dec.{T, eqb, ltb}
 use lib.IntN.{ℤ}
 use lib.Ieee.{Float}
 use Rattle.numbers.specs.Result.{Result, ok, refused, andThen}
-use Rattle.numbers.specs.Kind.{Span, float}
+use Rattle.numbers.specs.Kind.{Span, float, eqZ}
+use Rattle.utilities.specs.Lists.{every, distinct}
 use Rattle.base.specs.Form.{Form}
 use Rattle.base.specs.Sheet.{Nature, absent, wholeRange, floatRange, wholeLists, boolLists, floatLists, textLists, isLists}
 use Rattle.base.specs.Encode.{valueCount, textSize}
 use Rattle.base.specs.declared.Component.{Component}
 use Rattle.ends.specs.Ends.{endRule}
 use Rattle.ends.specs.Ranges.{wholeRule, rangePair}
-use Rattle.category_lists.specs.Categories.{ruled, keptTo, textKept, kept}
-use Rattle.calls.specs.Natures.{wholeRangeWith, floatRangeWith, listsWith, twoNatures}
-use Rattle.derived.proofs.Values.{IfOk, value-then, value-either}
+use Rattle.category_lists.specs.Categories.{categoryRule, textRule, sameText, ruled, combined, mapped, united, keptTo, textKept, kept, limited}
+use Rattle.category_lists.proofs.Distinct.{mapped-distinct, combined-distinct, united-distinct}
+use Rattle.calls.specs.Natures.{ruleFor, wholeListsOf, boolListsOf, textListsOf, listChecks, bothListChecks, unitedNature, listsUnited, combinedNature, listsPair, listsAlone, wholeRangeWith, floatRangeWith, listsWith, twoNatures}
+use Rattle.derived.proofs.Values.{IfOk, value-then, value-either, value-passed, value-from}
 
 module _ (X : Result Nature → Type 0) (c : Component) (type columns : ℕ) (together : Nature → Nature → Result Nature) (nothing : X (ok absent)) (mixed : X (refused 17)) where
   abbrev OfWholes : List (Span ℤ) → List (Span ℤ) → Type 0
@@ -111,3 +115,57 @@ module _ (Q : Nature → Type 0) where
   pub ruled-value : {E : Type 0} (o : Option (E → E → Result E)) (rest : (E → E → Result E) → Result Nature) → ((rule : E → E → Result E) → IfOk Q (rest rule)) → IfOk Q (ruled o rest)
   ruled-value none rest h = tt
   ruled-value (some rule) rest h = h rule
+
+-- ---- what categories make
+
+-- what holds of the absent nature and of lists without repeats
+pub record OfLists (Q : Nature → Type 0) : Type 0 where
+  pub nothing : Q absent
+  pub wholes : (ls : List (List ℤ)) → every (distinct eqZ) ls ≡ true → Q (wholeLists ls)
+  pub bools : (ls : List (List ℕ)) → every (distinct eqb) ls ≡ true → Q (boolLists ls)
+  pub texts : (ls : List (List (List ℕ))) → every (distinct sameText) ls ≡ true → Q (textLists ls)
+
+module _ (Q : Nature → Type 0) (law : OfLists Q) (c : Component) (type columns : ℕ) where
+  united-value : (l r : Nature) → IfOk Q (unitedNature columns l r)
+  united-value absent r = law .nothing
+  united-value (wholeRange rs) r = law .nothing
+  united-value (floatRange rs) r = law .nothing
+  united-value (wholeLists ls) r =
+      value-from Q (united eqZ columns ls (wholeListsOf r)) _ (λ ns e. law .wholes ns (united-distinct eqZ columns ls (wholeListsOf r) e))
+  united-value (boolLists ls) r =
+      value-from Q (united eqb columns ls (boolListsOf r)) _ (λ ns e. law .bools ns (united-distinct eqb columns ls (boolListsOf r) e))
+  united-value (floatLists ls) r = law .nothing
+  united-value (textLists ls) r =
+      value-from Q (united sameText columns ls (textListsOf r)) _ (λ ns e. law .texts ns (united-distinct sameText columns ls (textListsOf r) e))
+
+  limited-value : (limit : ℕ) (g : Result (List (List ℤ))) → ((ns : List (List ℤ)) → g ≡ ok ns → every (distinct eqZ) ns ≡ true) → IfOk Q (limited limit g)
+  limited-value limit g h = value-from Q g _ (λ ns e. kept-to Q limit (wholeLists ns) (law .wholes ns (h ns e)))
+
+  combined-value : (F : Form) (l r : Nature) → IfOk Q (combinedNature F c type columns l r)
+  combined-value F absent r = tt
+  combined-value F (wholeRange rs) r = tt
+  combined-value F (floatRange rs) r = tt
+  combined-value F (wholeLists ls) r =
+      ruled-value Q (categoryRule c type) _
+      (λ rule. limited-value (F .categoryLimit) (combined eqZ rule columns ls (wholeListsOf r)) (λ ns e. combined-distinct eqZ rule columns ls (wholeListsOf r) e))
+  combined-value F (boolLists ls) r = tt
+  combined-value F (floatLists ls) r = tt
+  combined-value F (textLists ls) r =
+      ruled-value Q (textRule c) _
+      (λ rule. value-from Q (combined sameText rule columns ls (textListsOf r)) _
+      (λ ns e. kept-value Q F (textLists ns) (law .texts ns (combined-distinct sameText rule columns ls (textListsOf r) e))))
+
+  pub united-lists : (l r : Nature) → IfOk Q (listsUnited columns l r)
+  unfolding listsUnited
+  united-lists l r = value-passed Q (bothListChecks columns l r) _ (λ passing. united-value l r)
+
+  pub paired-lists : (F : Form) (l r : Nature) → IfOk Q (listsPair F c type columns l r)
+  unfolding listsPair
+  paired-lists F l r = value-passed Q (bothListChecks columns l r) _ (λ passing. combined-value F l r)
+
+  pub mapped-lists : (limit : ℕ) (l : Nature) → IfOk Q (listsAlone limit c type columns l)
+  unfolding listsAlone
+  mapped-lists limit l =
+      value-passed Q (listChecks columns l) _
+      (λ passing. ruled-value Q (ruleFor c type l) _
+      (λ rule. limited-value limit (mapped eqZ rule columns (wholeListsOf l)) (λ ns e. mapped-distinct eqZ rule columns (wholeListsOf l) e)))

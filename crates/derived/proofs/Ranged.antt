@@ -5,12 +5,11 @@ use mathlib.Core.Path.{_≡_, subst}
 use mathlib.Core.Bool.{true}
 use mathlib.Core.List.{List}
 use Prim.Native.Nat.{ℕ}
-use lib.Dec.{eqb}
 use lib.IntN.{ℤ}
 use lib.Ieee.{Float}
 use borrow.Author.Tests.{not-false}
 use Rattle.numbers.specs.Result.{Result, Check}
-use Rattle.numbers.specs.Kind.{Span, whole, float, eqZ}
+use Rattle.numbers.specs.Kind.{Span, whole, float}
 use Rattle.utilities.specs.Lists.{repeated}
 use Rattle.base.specs.Form.{Form}
 use Rattle.base.specs.Sheet.{Nature, absent, wholeRange, floatRange, wholeLists, boolLists, floatLists, textLists, Sheet}
@@ -21,16 +20,15 @@ use Rattle.base.specs.declared.Family.{Family}
 use Rattle.base.specs.declared.Family.the-variants as Fam
 use Rattle.ends.specs.Ends.{endRule}
 use Rattle.ends.specs.Ranges.{wholeRule, rangePair, rangeAlone}
-use Rattle.category_lists.specs.Categories.{categoryRule, textRule, sameText, combined, mapped, united, limited}
 use Rattle.orders.specs.Orders.{pairChecks, copyChecks, poolChecks}
 use Rattle.orders.proofs.Passing.{Passing}
-use Rattle.calls.specs.Natures.{ruleFor, wholeListsOf, boolListsOf, textListsOf, listChecks, bothListChecks, unitedNature, listsUnited, combinedNature, listsPair, listsAlone, twoNatures, binaryNature, poolNature, unaryNature}
+use Rattle.calls.specs.Natures.{listsUnited, listsPair, listsAlone, twoNatures, binaryNature, poolNature, unaryNature}
 use Rattle.calls.specs.Derive.{deriveUnary, derivePair, deriveCopy, derivePool, deriveBy, derive}
 use Rattle.round_trip.specs.WellFormed.{Each}
 use Rattle.derived.proofs.Each.{each-repeated, each-both, each-any, every-each}
-use Rattle.derived.proofs.Values.{IfOk, value-more, value-then, value-passed, value-after, each-values, pair-values}
+use Rattle.derived.proofs.Values.{IfOk, value-more, value-then, value-passed, each-values, pair-values}
 use Rattle.derived.proofs.Fitted.{Any}
-use Rattle.derived.proofs.Natures.{two-natures, kept-to, kept-value, ruled-value}
+use Rattle.derived.proofs.Natures.{two-natures, OfLists, mapped-lists, paired-lists, united-lists}
 use Rattle.derived.proofs.Families.{checksBy, natureBy, OverColumns, by-family}
 use Rattle.derived.proofs.Ordered.{Asked}
 
@@ -94,34 +92,11 @@ module _ (P Q : Span ℤ → Type 0) (S T : Span Float → Type 0)
 
     -- ---- categories make no range
 
-    united-value : (l r : Nature) → IfOk Derived (unitedNature columns l r)
-    united-value absent r = tt
-    united-value (wholeRange rs) r = tt
-    united-value (floatRange rs) r = tt
-    united-value (wholeLists ls) r = value-after Derived (united eqZ columns ls (wholeListsOf r)) _ (λ ns. tt)
-    united-value (boolLists ls) r = value-after Derived (united eqb columns ls (boolListsOf r)) _ (λ ns. tt)
-    united-value (floatLists ls) r = tt
-    united-value (textLists ls) r = value-after Derived (united sameText columns ls (textListsOf r)) _ (λ ns. tt)
-
-    limited-value : (limit : ℕ) (g : Result (List (List ℤ))) → IfOk Derived (limited limit g)
-    limited-value limit g = value-after Derived g _ (λ ls. kept-to Derived limit (wholeLists ls) tt)
-
-    combined-value : (F : Form) (l r : Nature) → IfOk Derived (combinedNature F c type columns l r)
-    combined-value F absent r = tt
-    combined-value F (wholeRange rs) r = tt
-    combined-value F (floatRange rs) r = tt
-    combined-value F (wholeLists ls) r = ruled-value Derived (categoryRule c type) _ (λ rule. limited-value (F .categoryLimit) (combined eqZ rule columns ls (wholeListsOf r)))
-    combined-value F (boolLists ls) r = tt
-    combined-value F (floatLists ls) r = tt
-    combined-value F (textLists ls) r =
-        ruled-value Derived (textRule c) _
-        (λ rule. value-after Derived (combined sameText rule columns ls (textListsOf r)) _ (λ ns. kept-value Derived F (textLists ns) tt))
+    no-range : OfLists Derived
+    no-range = record { nothing = tt; wholes = λ ls h. tt; bools = λ ls h. tt; texts = λ ls h. tt }
 
     alone-value : (limit : ℕ) (l : Nature) → IfOk Derived (listsAlone limit c type columns l)
-    unfolding listsAlone
-    alone-value limit l =
-        value-passed Derived (listChecks columns l) _
-        (λ passing. ruled-value Derived (ruleFor c type l) _ (λ rule. limited-value limit (mapped eqZ rule columns (wholeListsOf l))))
+    alone-value = mapped-lists Derived no-range c type columns
 
     -- ---- two natures, of which two categories make no range together
 
@@ -142,12 +117,10 @@ module _ (P Q : Span ℤ → Type 0) (S T : Span Float → Type 0)
         k
 
     binary-values : (F : Form) (l r : Nature) → Operand l → Operand r → Right r → IfOk Derived (binaryNature F c type columns l r)
-    unfolding listsPair
-    binary-values F l r p q h = two-values (listsPair F c type columns) l r p q h (value-passed Derived (bothListChecks columns l r) _ (λ passing. combined-value F l r))
+    binary-values F l r p q h = two-values (listsPair F c type columns) l r p q h (paired-lists Derived no-range c type columns F l r)
 
     pool-values : (l r : Nature) → Operand l → Operand r → Right r → IfOk Derived (poolNature c type columns l r)
-    unfolding listsUnited
-    pool-values l r p q h = two-values (listsUnited columns) l r p q h (value-passed Derived (bothListChecks columns l r) _ (λ passing. united-value l r))
+    pool-values l r p q h = two-values (listsUnited columns) l r p q h (united-lists Derived no-range c type columns l r)
 
     unary-values : (limit : ℕ) (l : Nature) → ((x : Span ℤ) → P x → IfOk Q (endRule whole c x x)) → ((x : Span Float) → S x → IfOk T (endRule float c x x))
         → Operand l → IfOk Derived (unaryNature limit c type columns l)

@@ -61,10 +61,13 @@ module _ {X : Type 0} (P : X → Type 0) where
 pub passed-so : {X : Type 0} (A : Type 0) (cs : List Check) (rest : Result X) → (Passing cs → A) → IfOk (λ x. A) (checked cs rest)
 passed-so A cs rest h = value-passed (λ x. A) cs rest (λ passing. value-known (λ x. A) rest (λ x e. h passing))
 
--- whatever the first is
-pub value-after : {X Y : Type 0} (Q : Y → Type 0) (g : Result X) (rest : X → Result Y) → ((x : X) → IfOk Q (rest x)) → IfOk Q (andThen g rest)
-value-after Q (ok x) rest h = h x
-value-after Q (refused k) rest h = tt
+-- by what gave the first, or whatever the first is
+module _ {X Y : Type 0} (Q : Y → Type 0) (g : Result X) (rest : X → Result Y) where
+  pub value-from : ((x : X) → g ≡ ok x → IfOk Q (rest x)) → IfOk Q (andThen g rest)
+  value-from h = value-then (λ x. g ≡ ok x) Q g rest (value-known (λ x. g ≡ ok x) g (λ x e. e)) h
+
+  pub value-after : ((x : X) → IfOk Q (rest x)) → IfOk Q (andThen g rest)
+  value-after h = value-from (λ x e. h x)
 
 pub any-value : {X : Type 0} (g : Result X) → IfOk (λ x. Unit {0}) g
 any-value (ok x) = tt

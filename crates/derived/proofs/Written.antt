@@ -1,6 +1,7 @@
--- The bytes that a step gives, of operands' bytes that pass 3 and 4, for any stored form that is laid out properly.
---     step-gives    they are those of the derived sheet, which keeps to its form
---     step-read     and pass 3 and 4 again
+-- The bytes that a step gives, for any stored form that is laid out properly.
+--     step-gives      of operands that are held where they pass 3 to 5: those of the derived sheet, which keeps to its form
+--     step-written    of any operands' bytes
+--     step-read       and they pass 3 and 4 again
 -- Assumes nothing.
 use mathlib.Core.Path.{_≡_, refl, sym, subst, _∙_}
 use mathlib.Core.Bool.{Bool, true, false, cond}
@@ -51,32 +52,32 @@ module _ {F : Form} (laid : Laid F) (c : Component) (left right : List ℕ) wher
     pub sound : Sound F (numbered (familyOf c) k sheet)
     pub bytes : vs ≡ encode F (numbered (familyOf c) k sheet)
 
-  module _ (p : Held F (decode F left)) (q : Held F (decode F right)) where
+  module _ (p : Passed F left → Held F (decode F left)) (q : Passed F right → Held F (decode F right)) where
     -- behind the left sheet, l
     abbrev behind : Sheet → Result Sheet
     behind l = cond (isUnary (familyOf c)) (derive F c l l) (andThen (read F right) (λ r. derive F c l r))
 
-    behind-gives : Gives Deriving (behind (decode F left))
-    behind-gives = go (isUnary (familyOf c)) refl
+    behind-gives : Passed F left → Gives Deriving (behind (decode F left))
+    behind-gives z = go (isUnary (familyOf c)) refl
       where
         go : (t : Bool) → isUnary (familyOf c) ≡ t
             → Gives Deriving (cond t (derive F c (decode F left) (decode F left)) (andThen (read F right) (λ r. derive F c (decode F left) r)))
         go true e =
             let l = decode F left in
-            gives-more (Sound F) Deriving (derive F c l l) (derived-sound laid c l l p p) (λ s d f. (sym (unary-any c F l (decode F right) e) ∙ d, f))
+            gives-more (Sound F) Deriving (derive F c l l) (derived-sound laid c l l (p z) (p z)) (λ s d f. (sym (unary-any c F l (decode F right) e) ∙ d, f))
         go false e =
             let l = decode F left in
             let r = decode F right in
             gives-then (λ x. Passed F right × (x ≡ r)) Deriving (read F right) _ (read-gives F right)
             (λ x h.
             subst (λ (y : Sheet). Gives Deriving (derive F c l y)) (sym (h .1))
-            (gives-more (Sound F) Deriving (derive F c l r) (derived-sound laid c l r p q) (λ s d f. (d, f))))
+            (gives-more (Sound F) Deriving (derive F c l r) (derived-sound laid c l r (p z) (q (h .0))) (λ s d f. (d, f))))
 
     sheet-gives : Gives Deriving (stepSheet F c left right)
     unfolding stepSheet
     sheet-gives =
         gives-then (λ x. Passed F left × (x ≡ decode F left)) Deriving (read F left) _ (read-gives F left)
-        (λ x h. subst (λ (l : Sheet). Gives Deriving (behind l)) (sym (h .1)) behind-gives)
+        (λ x h. subst (λ (l : Sheet). Gives Deriving (behind l)) (sym (h .1)) (behind-gives (h .0)))
 
     pub step-gives : (k : ℕ) → k < 2 ^ 32 → Gives (Written k) (step F c k left right)
     unfolding step
@@ -84,7 +85,13 @@ module _ {F : Form} (laid : Laid F) (c : Component) (left right : List ℕ) wher
         gives-then Deriving (Written k) (stepSheet F c left right) _ sheet-gives
         (λ s d. record { sheet = s; derived = d .0; sound = numbered-sound laid (familyOf c) k s h (d .1); bytes = refl })
 
-  pub step-read : AllBytes left → AllBytes right → Read F left → Read F right → (k : ℕ) → k < 2 ^ 32 → Gives (Read F) (step F c k left right)
-  step-read small small′ p q k h =
-      gives-more (Written k) (Read F) (step F c k left right) (step-gives (decoded-held laid left small p) (decoded-held laid right small′ q) k h)
+  pub step-written : AllBytes left → AllBytes right → (k : ℕ) → k < 2 ^ 32 → Gives (Written k) (step F c k left right)
+  step-written small small′ = step-gives (held left small) (held right small′)
+    where
+      held : (s : List ℕ) → AllBytes s → Passed F s → Held F (decode F s)
+      held s small z = decoded-held laid s small (record { sizes = z .sizes; fields = z .fields })
+
+  pub step-read : AllBytes left → AllBytes right → (k : ℕ) → k < 2 ^ 32 → Gives (Read F) (step F c k left right)
+  step-read small small′ k h =
+      gives-more (Written k) (Read F) (step F c k left right) (step-written small small′ k h)
       (λ vs e w. subst (Read F) (sym (w .bytes)) (encoded-read laid (numbered (familyOf c) k (w .sheet)) (w .sound)))
