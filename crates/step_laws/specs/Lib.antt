@@ -7,3 +7,4 @@ pub mod Texts
 pub mod Signs
 pub mod Differences
 pub mod Counted
+pub mod Repeats
