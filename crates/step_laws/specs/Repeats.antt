@@ -58,9 +58,9 @@ table =
     ∷ says 26 1 16 (bothSigns 9)
     ∷ says 26 9 16 (bothSigns 8)
     ∷ gives 1 224 16 ((replicate 8 (minus 7) ++ replicate 8 (pos 7)) ∷ []) (replicate 16 (pos 7 ∷ []))
-    -- 24 comes before it, wherever the value stands that has no magnitude
+    -- 24 comes before it, also where the values in front are too many already
     ∷ says 24 1 1 (pos 1 ∷ minus 1 ∷ least ∷ [])
-    ∷ says 24 1 16 (listFrom 8 1 pos ++ (least ∷ []))
+    ∷ says 24 1 16 (listFrom 9 1 pos ++ (least ∷ []))
     ∷ []
 
 -- every row of the table holds
