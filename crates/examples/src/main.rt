@@ -1,4 +1,4 @@
-// Document 01's shelf examples and traps, and Pool, Subtract of ranges and counted category lists of document 02: sheets are built, the gate derives, and what its output says is written with both signs.
+// Document 01's shelf examples and traps, and Pool, Subtract of ranges, counted category lists and lists without repeats of document 02: sheets are built, the gate derives, and what its output says is written with both signs.
 mod sheet; // operands
 mod show; // what bytes say
 
@@ -81,10 +81,10 @@ fn next_step(e: Ends, f: Ends) {
     line_end();
 }
 
-fn categories_alone(component: u32, a: i64, b: i64) {
+fn categories_alone(component: u32, a: i64, b: i64, lists: u8, columns: u8) {
     let mut left = [0u8; form::NARROW_LONGEST];
     let mut out = [0u8; form::NARROW_LONGEST];
-    let l = sheet::categories(&mut left, a, b, 1, 1);
+    let l = sheet::categories(&mut left, a, b, lists, columns);
     derive(component, show::front(&left, l), b"", &mut out);
     line_end();
 }
@@ -230,11 +230,13 @@ fn differences() {
     );
 }
 
-// One list, or one for each column.
+// One list, or one for each column. A list holds each result once, and another list may hold it too.
 fn counted() {
     with_categories(Component::ADD, 1, 2, 2, 2);
     with_categories(Component::ADD, 1, 2, 2, 1);
     with_categories(Component::POOL, 1, 2, 2, 3);
+    categories_alone(Component::ABS, -3, 3, 2, 2);
+    categories_alone(Component::NEGATIVE, -3, 3, 1, 1);
 }
 
 fn main() {
@@ -242,7 +244,7 @@ fn main() {
     starred();
     starred_too();
     io::write_all(STDOUT_FILENO, b"Not starred\n");
-    categories_alone(Component::ABS, -3, 3);
+    categories_alone(Component::ABS, -3, 3, 1, 1);
     pair(Component::ADD, sheet::whole(1, 2), sheet::whole(10, 20), 16);
     pair(Component::ADD, sheet::whole(1, 2), sheet::whole(10, 20), 17);
     io::write_all(STDOUT_FILENO, b"Traps\n");
