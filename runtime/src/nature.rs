@@ -33,7 +33,7 @@ impl<T> From<[T; 2]> for Ends<T> {
     }
 }
 
-/// The nature of an array. Ranges have one entry per column, or one for all; categories one list per column, or one for all. Another count is refused by a step that uses it: 18 of ranges, 29 of categories.
+/// The nature of an array. Ranges have one entry per column, or one for all; categories one list per column, or one for all. Another count is refused by a step that uses it: 18 of ranges, 29 of categories. A leaf's list may repeat a value; a derived one, of any kind and under any component, holds each once.
 #[derive(Clone, Debug)]
 pub enum Nature {
     /// Nothing is stated.

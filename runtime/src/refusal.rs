@@ -122,7 +122,7 @@ const TABLE: [Row; 29] = [
     (Refusal::PowerCategoryOverflow, "A category under power overflows.",
      "No call can meet it: power of type int wants a range on its right (15), and power of type float has no category rule (22). The number is kept because document 01 lists it."),
     (Refusal::TooManyCategories, "The result holds over 128 categories, counted as they would be written.",
-     "Repeats within a list are dropped before counting, except those that abs and negative make. A single list goes with every output column and then counts once for each."),
+     "Of equal results in one list the first stays, under abs and negative too, and what is left is counted: abs of -3 and 3 is one category. A single list goes with every output column and then counts once for each. Take fewer categories, or fewer columns. 24 is tested first."),
     (Refusal::OutputTooShort, "The output is too short.",
      "A single call needs as many bytes as the derived sheet has, at most 2,308. A plan call needs 2,308 bytes of work buffer for each node. The command `gate cards` always lends enough."),
     (Refusal::TooMuchText, "The result's text exceeds 1,024 bytes after repeats go.",
@@ -204,6 +204,14 @@ mod tests {
         assert_eq!((NARROW.longest(), NARROW.text), (2308, 1024));
         assert!(Refusal::SheetSize.explain().contains("2,308") && Refusal::OutputTooShort.explain().contains("2,308"));
         assert!(Refusal::SheetSize.explain().contains("1,024") && Refusal::TooMuchText.sentence().contains("1,024"));
+    }
+
+    /// Repeats that abs makes go before it counts.
+    #[test]
+    fn what_26_counts_is_said() {
+        let text = Refusal::TooManyCategories.explain();
+        assert!(text.contains("under abs and negative too, and what is left is counted: abs of -3 and 3 is one category"), "{text}");
+        assert!(text.contains("24 is tested first") && !text.contains("except"), "{text}");
     }
 
     /// Its place is not that of its number.

@@ -104,16 +104,14 @@ fn over(counts: &[usize], limit: usize) -> String {
     format!("{total} ({} by list), at most {limit}{from}", words.join(" + "))
 }
 
-/// Abs and negative drop an operand's repeats and keep those that arise; the others keep first occurrences, pool those of both lists.
+/// How many values a column's lists make, each counted once: abs and negative map one list, pool takes those of both, the others combine them.
 fn whole_results(component: Component, left: &[i64], right: &[i64]) -> usize {
-    if component.is_unary() {
-        return united(left, &[]).len();
-    }
-    if component == Component::Pool {
-        return united(left, right).len();
-    }
     let result = |a: &i64, b: &i64| operation_result(component, i128::from(*a), i128::from(*b));
-    combined(left, right, result).len()
+    match component {
+        Component::Pool => united(left, right).len(),
+        Component::Abs | Component::Negative => left.iter().map(|a| result(a, a)).collect::<HashSet<_>>().len(),
+        _ => combined(left, right, result).len(),
+    }
 }
 
 /// Add joins, pool unites; no other component has a rule for text.
@@ -133,8 +131,11 @@ fn combined<T, R: Eq + Hash>(left: &[T], right: &[T], result: impl Fn(&T, &T) ->
     left.iter().flat_map(|a| right.iter().map(move |b| result(a, b))).collect()
 }
 
+/// Abs and negative read the first alone.
 fn operation_result(component: Component, a: i128, b: i128) -> Option<i128> {
     match component {
+        Component::Abs => Some(a.abs()),
+        Component::Negative => Some(-a),
         Component::Add => Some(a + b),
         Component::Subtract => Some(a - b),
         Component::Multiply => Some(a * b),

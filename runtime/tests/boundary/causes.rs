@@ -3,7 +3,7 @@
 use crate::made::{component, sheet, Draws};
 use gate_runtime::causes::{self, Call, NO_CAUSE};
 use gate_runtime::form::plan::SLOT;
-use gate_runtime::{propagate_property, Refusal};
+use gate_runtime::{propagate_property, Nature, Refusal, Sheet};
 use std::collections::BTreeSet;
 use std::fs;
 
@@ -31,10 +31,32 @@ fn refused(component: u32, left: &[u8], right: &[u8], out_len: usize) -> Option<
     Some(refusal.code())
 }
 
+/// The count that a cause of 26 or 28 names, and what follows it.
+fn held(cause: &str) -> (usize, &str) {
+    let (count, rest) = cause.split_once("the result holds ").expect("the count").1.split_once([' ', ',']).expect("the limit");
+    (count.parse().expect("a number"), rest)
+}
+
 /// A count that the cause names is over its limit.
 fn exceeds(cause: &str, limit: usize) {
-    let (count, rest) = cause.split_once("the result holds ").expect("the count").1.split_once([' ', ',']).expect("the limit");
-    assert!(count.parse::<usize>().is_ok_and(|count| count > limit) && rest.contains(&format!("at most {limit}")), "{cause}");
+    let (count, rest) = held(cause);
+    assert!(count > limit && rest.contains(&format!("at most {limit}")), "{cause}");
+}
+
+/// What causes of 26 and 28 count is what an accepted call writes. Gives whether there was something to count.
+fn counts_what_is_written(component: u32, left: &[u8], right: &[u8]) -> bool {
+    let mut out = [0; SLOT];
+    let length = propagate_property(component, 1, left, right, &mut out).expect("an accepted call");
+    let nature = Sheet::decode(&out[..length]).expect("a derived sheet can be read").nature;
+    let call = Call { component, left, right, out_len: SLOT, names: ["a", "b"] };
+    let named = |refusal| held(&causes::of_single(refusal, &call)[0]).0;
+    if let Nature::TextCategories(_) = nature {
+        assert_eq!(named(Refusal::TooMuchText), nature.text_size(), "{component}: {left:?}, {right:?}");
+    }
+    // Bool lists are never too many, and no cause counts them.
+    let counted = matches!(nature, Nature::WholeCategories(_) | Nature::TextCategories(_));
+    assert!(!counted || named(Refusal::TooManyCategories) == nature.categories(), "{component}: {left:?}, {right:?}");
+    counted
 }
 
 /// No arithmetic cause, and no count of lists, is found in operands that the proved call accepts.
@@ -57,7 +79,7 @@ fn accepted_has_no_cause(component: u32, left: &[u8], right: &[u8]) {
 fn generated_calls_have_causes() {
     let mut draws = Draws::new(20_261_115);
     let (mut seen, mut of_pool) = (BTreeSet::new(), BTreeSet::new());
-    let mut accepted = 0;
+    let (mut accepted, mut counted) = (0, 0);
     for _ in 0..120_000 {
         let (left, right) = (sheet(&mut draws).encode(), sheet(&mut draws).encode());
         let out_len = if draws.one_in(20) { 100 } else { SLOT };
@@ -72,13 +94,14 @@ fn generated_calls_have_causes() {
             None => {
                 accepted += 1;
                 accepted_has_no_cause(component, &left, &right);
+                counted += usize::from(counts_what_is_written(component, &left, &right));
             }
         }
     }
     let wanted: BTreeSet<u32> = (5..=29).filter(|number| *number != 25).collect();
     assert_eq!(seen, wanted);
     assert_eq!(of_pool, BTreeSet::from([5, 6, 7, 8, 11, 12, 14, 17, 18, 19, 20, 21, 24, 26, 27, 28, 29]));
-    assert!(accepted > 5_000, "{accepted} calls were accepted");
+    assert!(accepted > 5_000 && counted > 1_000, "{accepted} calls were accepted, {counted} with categories");
 }
 
 /// The repository's stored calls are inputs here; their answers are compared elsewhere.

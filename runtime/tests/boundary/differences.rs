@@ -1,8 +1,7 @@
 //! Subtract of ranges: left's lower less right's upper, left's upper less right's lower, each absent if one of its two is.
 
-use crate::made::{component, float, listed, plain, sheet, whole, Draws};
-use gate_runtime::causes::{self, Call, NO_CAUSE};
-use gate_runtime::form::plan::SLOT;
+use crate::made::{cause, component, float, listed, plain, sheet, shown, whole, Draws};
+use gate_runtime::causes::NO_CAUSE;
 use gate_runtime::{derive, show, Bound, Component, DataType, Ends, Nature, Plan, Refusal, Sheet};
 
 const LEAST: i64 = i64::MIN;
@@ -14,15 +13,13 @@ fn columns(entries: &[(Option<i64>, Option<i64>)]) -> Sheet {
     plain(DataType::Int, Nature::WholeRange(ends))
 }
 
-fn shown(left: &Sheet, right: &Sheet) -> Result<String, Refusal> {
-    derive(Component::Subtract, 2, left, right).map(|sheet| show::nature(&sheet.nature))
+fn difference(left: &Sheet, right: &Sheet) -> Result<String, Refusal> {
+    shown(Component::Subtract, left, right)
 }
 
 /// What is shown as the cause of 24, whether or not the call is refused with it.
-fn cause(left: &Sheet, right: &Sheet) -> Vec<String> {
-    let (left, right) = (left.encode(), right.encode());
-    let call = Call { component: Component::Subtract.number(), left: &left, right: &right, out_len: SLOT, names: ["", ""] };
-    causes::of_single(Refusal::WholeOverflow, &call)
+fn overflow(left: &Sheet, right: &Sheet) -> String {
+    cause(Refusal::WholeOverflow, Component::Subtract, left, right)
 }
 
 #[test]
@@ -38,7 +35,7 @@ fn ends_cross() {
         (float(&[[-1.7e308, 1.0]]), float(&[[0.0, 1.7e308]]), "[-overflow, +1.0]"),
         (listed(&[&[7, 2]]), listed(&[&[2, 7]]), "{+5, +0, -5}"),
     ] {
-        assert_eq!(shown(&left, &right).as_deref(), Ok(wanted));
+        assert_eq!(difference(&left, &right).as_deref(), Ok(wanted));
     }
 }
 
@@ -56,8 +53,8 @@ fn an_end_is_absent_if_one_of_its_two_is() {
         ((Some(5), Some(MOST)), (None, Some(-1)), "[+6, +inf]"),
     ] {
         let (left, right) = (columns(&[left]), columns(&[right]));
-        assert_eq!(shown(&left, &right).as_deref(), Ok(wanted));
-        assert_eq!(cause(&left, &right), [NO_CAUSE], "{wanted}");
+        assert_eq!(difference(&left, &right).as_deref(), Ok(wanted));
+        assert_eq!(overflow(&left, &right), NO_CAUSE, "{wanted}");
     }
 }
 
@@ -75,8 +72,8 @@ fn a_cause_names_the_end_that_leaves_64_bits() {
     ] {
         let column = left.len();
         let (left, right) = (columns(&left), columns(&[right]));
-        assert_eq!(shown(&left, &right), Err(Refusal::WholeOverflow), "{wanted}");
-        let text = cause(&left, &right).join("; ");
+        assert_eq!(difference(&left, &right), Err(Refusal::WholeOverflow), "{wanted}");
+        let text = overflow(&left, &right);
         assert!(text.starts_with(&format!("column {column}: left [")), "{text}");
         assert!(text.ends_with(&format!(": {wanted} leaves 64 signed bits")), "{text} does not end in {wanted}");
     }
@@ -95,8 +92,8 @@ fn a_next_step_is_refused_for_an_overflow_alone() {
     };
     let of = |natures: &[&str]| natures.iter().map(|text| text.to_string()).collect::<Vec<String>>();
     assert_eq!(walked(whole(&[[0, 1]]), whole(&[[0, 5]])), (Ok(4), of(&["[-5, +1]", "[-1, +5]"])));
-    let overflow = walked(float(&[[-1.7e308, 1.0]]), float(&[[0.0, 1.7e308]]));
-    assert_eq!(overflow, (Err((5, Some(3))), of(&["[-overflow, +1.0]"])));
+    let infinite = walked(float(&[[-1.7e308, 1.0]]), float(&[[0.0, 1.7e308]]));
+    assert_eq!(infinite, (Err((5, Some(3))), of(&["[-overflow, +1.0]"])));
 }
 
 /// What of a derived range fails 5: whole ends never do, and float ends by being infinite alone.

@@ -1,24 +1,16 @@
 //! Category lists counted (02, S-5): one list or one for each column of the output, where categories are mapped or meet categories.
 
-use crate::made::{but, listed, plain, texts, whole};
-use gate_runtime::causes::{self, Call, NO_CAUSE};
-use gate_runtime::form::plan::SLOT;
-use gate_runtime::{derive, show, Component, DataType, Nature, Plan, Refusal, Sheet};
+use crate::made::{but, cause, listed, plain, shown, texts, whole, ALONE};
+use gate_runtime::causes::NO_CAUSE;
+use gate_runtime::{derive, Component, DataType, Nature, Plan, Refusal, Sheet};
 
 /// Components that take two operands of categories as far as 29.
 const PAIRS: [Component; 6] =
     [Component::Add, Component::Subtract, Component::Multiply, Component::Divide, Component::Power, Component::Pool];
-const ALONE: [Component; 2] = [Component::Abs, Component::Negative];
-
-fn shown(component: Component, left: &Sheet, right: &Sheet) -> Result<String, Refusal> {
-    derive(component, 2, left, right).map(|sheet| show::nature(&sheet.nature))
-}
 
 /// What is shown as the cause of 29, whether or not the call is refused with it.
-fn cause(component: Component, left: &Sheet, right: &Sheet) -> String {
-    let (left, right) = (left.encode(), right.encode());
-    let call = Call { component: component.number(), left: &left, right: &right, out_len: SLOT, names: ["", ""] };
-    causes::of_single(Refusal::CategoryListCount, &call).join("; ")
+fn count_cause(component: Component, left: &Sheet, right: &Sheet) -> String {
+    cause(Refusal::CategoryListCount, component, left, right)
 }
 
 /// Every kind of categories, each list with one member.
@@ -60,7 +52,7 @@ fn held(component: Component, sides: &[(&str, &Sheet)], columns: i64) -> Option<
         (None, Err(refusal)) => assert_eq!(*refusal, Refusal::NoCategoryRule, "{component}: {left:?}, {right:?}"),
         _ => panic!("{component} was accepted: {left:?}, {right:?}"),
     }
-    let text = cause(component, left, right);
+    let text = count_cause(component, left, right);
     match met {
         Some((role, sheet, 29)) => {
             assert!(text.starts_with(&format!("{role}: {} category lists", sheet.nature.lists())), "{text}");
@@ -122,7 +114,7 @@ fn one_list_or_one_for_each_column_is_taken() {
         (Component::Add, texts(&[&["a"], &["b"]]), texts(&[&["c"]]), r#"{"ac"} {"bc"}"#),
     ] {
         assert_eq!(shown(component, &left, &right).as_deref(), Ok(wanted), "{component}");
-        assert_eq!(cause(component, &left, &right), NO_CAUSE, "{wanted}");
+        assert_eq!(count_cause(component, &left, &right), NO_CAUSE, "{wanted}");
     }
 }
 
@@ -136,7 +128,7 @@ fn mixed_natures_are_not_counted() {
             for other in &others {
                 for (left, right) in [(&uneven, other), (other, &uneven)] {
                     assert_eq!(shown(component, left, right).as_deref(), Ok("absent"), "{component}: {uneven:?}");
-                    assert_eq!(cause(component, left, right), NO_CAUSE, "{component}: {uneven:?}");
+                    assert_eq!(count_cause(component, left, right), NO_CAUSE, "{component}: {uneven:?}");
                 }
             }
         }

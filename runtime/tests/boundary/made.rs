@@ -1,6 +1,11 @@
 //! Sheets and calls that the tests make.
 
-use gate_runtime::{Component, DataType, Ends, Group, Key, Nature, Sheet};
+use gate_runtime::causes::{self, Call};
+use gate_runtime::form::plan::SLOT;
+use gate_runtime::{propagate_property, show, Component, DataType, Ends, Group, Key, Nature, Refusal, Sheet};
+
+/// Components that map the categories of one operand.
+pub const ALONE: [Component; 2] = [Component::Abs, Component::Negative];
 
 /// Releasable, 1 row, so that 6 to 10 and 13 stay silent.
 pub fn plain(data_type: DataType, nature: Nature) -> Sheet {
@@ -22,6 +27,11 @@ pub fn whole_ends(lower: Option<i64>, upper: Option<i64>) -> Sheet {
 pub fn listed(lists: &[&[i64]]) -> Sheet {
     let lists = lists.iter().map(|list| list.to_vec()).collect();
     plain(DataType::Int, Nature::WholeCategories(lists))
+}
+
+/// 1, -1, 2, -2 and so on: twice as many values as magnitudes.
+pub fn both_signs(magnitudes: i64) -> Vec<i64> {
+    (1..=magnitudes).flat_map(|n| [n, -n]).collect()
 }
 
 pub fn texts<T: AsRef<[u8]>>(lists: &[&[T]]) -> Sheet {
@@ -48,6 +58,33 @@ pub fn but(mut sheet: Sheet, change: impl Fn(&mut Sheet)) -> Sheet {
 
 pub fn private(sheet: Sheet) -> Sheet {
     but(sheet, |s| s.releasable = false)
+}
+
+/// The bytes of the derived sheet.
+pub fn call(component: Component, left: &Sheet, right: &Sheet) -> Result<Vec<u8>, Refusal> {
+    let mut out = [0xA5; SLOT];
+    let length = propagate_property(component.number(), 3, &left.encode(), &right.encode(), &mut out)?;
+    Ok(out[..length].to_vec())
+}
+
+/// The length of the derived sheet and its nature.
+pub fn derived(component: Component, left: &Sheet, right: &Sheet) -> Result<(usize, String), Refusal> {
+    let bytes = call(component, left, right)?;
+    let sheet = Sheet::decode(&bytes).expect("a derived sheet can be read");
+    assert_eq!(sheet.encode(), bytes);
+    Ok((bytes.len(), show::nature(&sheet.nature)))
+}
+
+/// The derived nature.
+pub fn shown(component: Component, left: &Sheet, right: &Sheet) -> Result<String, Refusal> {
+    derived(component, left, right).map(|(_, nature)| nature)
+}
+
+/// What is shown as the cause of a refusal, whether or not the call is refused with it.
+pub fn cause(refusal: Refusal, component: Component, left: &Sheet, right: &Sheet) -> String {
+    let (left, right) = (left.encode(), right.encode());
+    let call = Call { component: component.number(), left: &left, right: &right, out_len: SLOT, names: ["", ""] };
+    causes::of_single(refusal, &call).join("; ")
 }
 
 /// Numbers from a seed (xorshift), so that every run makes the same ones.

@@ -5,6 +5,7 @@ mod causes;
 mod differences;
 mod lists;
 mod made;
+mod mapped;
 mod refusals;
 mod round_trips;
 mod texts;

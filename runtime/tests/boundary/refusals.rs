@@ -1,6 +1,6 @@
 //! Every refusal number from Rust, by the proved calls, with a cause that names the right field, column or pair.
 
-use crate::made::{but, float, floats_listed, listed, plain, private, texts, whole, whole_ends};
+use crate::made::{both_signs, but, float, floats_listed, listed, plain, private, texts, whole, whole_ends};
 use gate_runtime::causes::{self, Call, NO_CAUSE};
 use gate_runtime::form::plan::SLOT;
 use gate_runtime::{propagate_properties, propagate_property, DataType, Ends, Group, Key, Nature, Plan, Refusal, Sheet, Stopped};
@@ -241,6 +241,7 @@ fn arithmetic() -> Vec<Case> {
         case(24, ABS, listed(&[&[3, i64::MIN]]), one(), "list 1: category -9223372036854775808"),
         case(26, ADD, listed(&[&many]), listed(&[&thirty]), "categories: left 100, right 30: the result holds 129, at most 128"),
         case(26, NEGATIVE, listed(&[&many]).with_columns(2), one(), "the result holds 200 (100 + 100 by list)"),
+        case(26, ABS, listed(&[&both_signs(64)]).with_columns(3), one(), "the result holds 192 (64 + 64 + 64 by list)"),
         Case { out_len: 97, ..case(27, ADD, one(), one(), "output: 97 bytes, the derived sheet has 98") },
         Case { out_len: 0, ..case(27, ABS, one(), one(), "output: 0 bytes, the derived sheet has 98") },
     ]

@@ -1,22 +1,8 @@
 //! Document 02's text labels (S-2) by the proved calls: layout, joins, unions, and every refusal that text brings.
 
-use crate::made::{but, floats_listed, joined, listed, plain, texts, whole};
+use crate::made::{but, call, derived, floats_listed, joined, listed, plain, texts, whole};
 use gate_runtime::form::plan::SLOT;
 use gate_runtime::{propagate_properties, propagate_property, Component, DataType, Nature, Plan, Refusal, Sheet, Stopped};
-
-fn call(component: Component, left: &Sheet, right: &Sheet) -> Result<Vec<u8>, Refusal> {
-    let mut out = [0xA5; SLOT];
-    let length = propagate_property(component.number(), 3, &left.encode(), &right.encode(), &mut out)?;
-    Ok(out[..length].to_vec())
-}
-
-/// The length of the derived sheet and its nature.
-fn derived(component: Component, left: &Sheet, right: &Sheet) -> Result<(usize, String), Refusal> {
-    let bytes = call(component, left, right)?;
-    let sheet = Sheet::decode(&bytes).expect("a derived sheet can be read");
-    assert_eq!(sheet.encode(), bytes);
-    Ok((bytes.len(), gate_runtime::show::nature(&sheet.nature)))
-}
 
 /// What the plan call says of one leaf.
 fn as_leaf(sheet: &[u8]) -> Result<usize, (u32, Option<usize>)> {

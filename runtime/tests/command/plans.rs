@@ -324,6 +324,28 @@ fn lists_beside_a_range_are_not_counted() {
     assert!(code == 1 && text.contains("not stated") && text.contains("Refused: node 5 `t` = negative two (line 6)"), "{text}");
 }
 
+/// A list of 1, -1 up to 64, -64 for every column: abs leaves 64 of them, negative all.
+#[test]
+fn a_refusal_counts_what_abs_and_negative_leave() {
+    let list: Vec<String> = (1..=64).map(|n| format!("{n}, -{n}")).collect();
+    let render = |columns: usize, word: &str| {
+        let leaf = format!("leaf a : int, whole {{{}}}, columns {columns}, rows 1, releasable\n", list.join(", "));
+        let card = Card::of("f", format!("{leaf}s = {word} a\n").as_bytes());
+        (card.exit_code(), card.render().0)
+    };
+    for (columns, word, holds) in [
+        (3, "abs", "192 (64 + 64 + 64 by list), at most 128, exceeded from column 3 on"),
+        (2, "negative", "256 (128 + 128 by list), at most 128, exceeded from column 2 on"),
+    ] {
+        let (code, text) = render(columns, word);
+        assert!(code == 1 && text.contains("refused with 26"), "{text}");
+        let cause = format!("\n  categories: operand `a` 128: the result holds {holds}\n  More: gate explain 26\n");
+        assert!(text.contains(&cause), "{text}");
+    }
+    let (code, text) = render(2, "abs");
+    assert!(code == 0 && text.contains("all: {+1, +2, +3, ") && !text.contains("+64, +64"), "{text}");
+}
+
 #[test]
 fn caret_lines_point_at_the_place() {
     let problems = text::read("leaf 冰場 : int\n\tb = ab 冰場").unwrap_err();
