@@ -76,6 +76,23 @@ fn json_and_picture_show_lists_that_do_not_go_with_the_columns() {
     assert!(texts.contains(&"2: {+0, +1}".to_string()) && texts.contains(&"all: {+0, +1}".to_string()), "{texts:?}");
 }
 
+/// What is plotted from the document has one bar for -3 and 3.
+#[test]
+fn json_and_picture_show_each_distance_once() {
+    let card = card("set_point");
+    let document = json_reader::read(&json::document(std::slice::from_ref(&card)).write()).unwrap();
+    let nodes = document.at("plans").list()[0].at("nodes").list().to_vec();
+    let lists = |node: usize| -> Vec<Vec<&str>> {
+        let lists = nodes[node].at("sheet").at("categories").list();
+        lists.iter().map(|list| list.list().iter().map(|value| value.number()).collect()).collect()
+    };
+    assert_eq!(lists(0), [vec!["-3", "3"], vec!["3", "-1", "1", "0"]]);
+    assert_eq!(lists(2), [vec!["3"], vec!["3", "1", "0"]]);
+    assert_eq!(lists(3), [vec!["30"], vec!["30", "10", "0"]]);
+    let texts = picture(&card);
+    assert!(texts.contains(&"1: {+3}".to_string()) && texts.contains(&"2: {+3, +1, +0}".to_string()), "{texts:?}");
+}
+
 #[test]
 fn json_and_picture_show_pool_by_its_word() {
     let card = card("twin_plants");
