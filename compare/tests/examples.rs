@@ -4,6 +4,8 @@
 mod counted;
 #[path = "../../port/tests/examples/made.rs"]
 mod made;
+#[path = "../../port/tests/examples/mapped.rs"]
+mod mapped;
 #[path = "../../port/tests/examples/pool.rs"]
 mod pool;
 #[path = "../../port/tests/examples/shelf.rs"]

@@ -112,6 +112,28 @@ impl<'a, T: Value<'a>> Store<T> {
         self.count += 1;
     }
 
+    /// Appends a value unless it stands there from `start` on.
+    fn push_new(&mut self, start: usize, list: usize, value: T) {
+        if !self.over && !self.values[start..self.count].contains(&value) {
+            self.push(list, value);
+        }
+    }
+
+    /// Appends a list's values mapped, first occurrences alone; the first value
+    /// that fails ends it.
+    fn push_mapped(
+        &mut self,
+        number: usize,
+        rule: impl Fn(T) -> Option<T>,
+        list: &List<T>,
+    ) -> Result<(), Refusal> {
+        let start = self.count;
+        for value in list.as_slice() {
+            self.push_new(start, number, rule(*value).ok_or(24u32)?);
+        }
+        Ok(())
+    }
+
     /// Appends a list's product; the first pair that fails ends it.
     fn push_product(
         &mut self,
@@ -123,10 +145,7 @@ impl<'a, T: Value<'a>> Store<T> {
         let start = self.count;
         for l in left.as_slice() {
             for r in right.as_slice() {
-                let value = rule(*l, *r).ok_or(24u32)?;
-                if !self.over && !self.values[start..self.count].contains(&value) {
-                    self.push(list, value);
-                }
+                self.push_new(start, list, rule(*l, *r).ok_or(24u32)?);
             }
         }
         Ok(())
@@ -136,9 +155,7 @@ impl<'a, T: Value<'a>> Store<T> {
     fn push_union(&mut self, list: usize, left: &List<T>, right: &List<T>) {
         let start = self.count;
         for value in left.as_slice().iter().chain(right.as_slice()) {
-            if !self.values[start..self.count].contains(value) {
-                self.push(list, *value);
-            }
+            self.push_new(start, list, *value);
         }
     }
 
@@ -196,21 +213,10 @@ impl<'a, T: Value<'a>> Store<T> {
     }
 }
 
-impl Store<i64> {
-    fn push_mapped(
-        &mut self,
-        number: usize,
-        component: u32,
-        list: &List<i64>,
-    ) -> Result<(), Refusal> {
-        for value in list.as_slice() {
-            let mapped = match component {
-                ABS => value.checked_abs(),
-                _ => value.checked_neg(),
-            };
-            self.push(number, mapped.ok_or(24u32)?);
-        }
-        Ok(())
+fn map(component: u32, value: i64) -> Option<i64> {
+    match component {
+        ABS => value.checked_abs(),
+        _ => value.checked_neg(),
     }
 }
 
@@ -248,7 +254,9 @@ fn alike(left: &Sheet, right: &Sheet, columns: usize) -> Result<(), Refusal> {
     Ok(())
 }
 
-/// Abs and Negative: repeats are dropped before the mapping and kept after it.
+/// Abs and Negative: an operand's repeats go before the mapping, and what it made
+/// alike after it, list by list. 24 is tested of every value, then 26 of what is
+/// left, once per column where one list spreads.
 pub fn unary(component: u32, left: &Sheet, columns: usize) -> Result<Store<i64>, Refusal> {
     standard(left, columns)?;
     if left.nature != WHOLE_LISTS {
@@ -256,7 +264,8 @@ pub fn unary(component: u32, left: &Sheet, columns: usize) -> Result<Store<i64>,
     }
     let mut store = Store::new(WHOLE_LISTS);
     for number in 0..left.lists {
-        store.push_mapped(number, component, &List::read(left, number))?;
+        let rule = |value| map(component, value);
+        store.push_mapped(number, rule, &List::read(left, number))?;
     }
     store.lists = left.lists;
     if left.lists == 1 {

@@ -1,4 +1,4 @@
-//! The two calls of document 01, with document 02's S-1, S-2, S-4 and S-5, in
+//! The two calls of document 01, with document 02's S-1, S-2, S-4, S-5 and S-6, in
 //! plain safe Rust on the bytes.
 //!
 //! It shares no code with the proved crates or the oracle, so that each can be

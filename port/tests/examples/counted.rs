@@ -12,8 +12,6 @@ const BOOL: u8 = 4;
 const FLOAT: u8 = 5;
 const TEXT: u8 = 6;
 
-const NODE: usize = 72;
-const LEAST: i64 = i64::MIN;
 const OF_FLOAT: &[(usize, u8)] = &[(TYPE, 3)];
 
 type Lists = &'static [&'static [i64]];

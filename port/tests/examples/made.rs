@@ -16,6 +16,9 @@ pub const POOL: u32 = 10;
 
 pub const SLOT: usize = 2308;
 
+/// The least number of 64 bits: its magnitude and its negative leave them.
+pub const LEAST: i64 = i64::MIN;
+
 pub type Entry = (Option<i64>, Option<i64>);
 
 /// The bits of an entry's ends.
@@ -138,6 +141,7 @@ pub const ORDERED: usize = 11;
 pub const STABILITY: usize = 12;
 pub const AGGREGATOR: usize = 16;
 pub const AREA: usize = 26;
+pub const NODE: usize = 72;
 
 /// The same sheet with other bytes.
 pub fn with(mut sheet: Vec<u8>, bytes: &[(usize, u8)]) -> Vec<u8> {

@@ -2,6 +2,7 @@
 
 mod counted;
 mod made;
+mod mapped;
 mod pool;
 mod shelf;
 mod sign;

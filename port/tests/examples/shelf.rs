@@ -54,7 +54,7 @@ fn refusals() {
 #[test]
 fn categories() {
     gives(2, &list(&[1, 2]), &list(&[10, 11]), &list(&[11, 12, 13]));
-    gives(1, &list(&[-3, 3]), &[], &list(&[3, 3]));
+    gives(1, &list(&[-3, 3]), &[], &list(&[3]));
     gives(9, &list(&[3, 3]), &[], &list(&[-3]));
     gives(3, &list(&[5, 1]), &list(&[1, 5]), &list(&[4, 0, -4]));
     assert_eq!(call(5, &list(&[1]), &list(&[0])), Err(24));

@@ -5,8 +5,6 @@ use crate::made::*;
 use crate::walked::{slot, walked, FILLER};
 use plain_port::check_sheet;
 
-const NODE: usize = 72;
-const LEAST: i64 = i64::MIN;
 const MOST: i64 = i64::MAX;
 
 type Ends<T> = (Option<T>, Option<T>);
