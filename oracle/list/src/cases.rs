@@ -74,6 +74,7 @@ pub fn all() -> Vec<Case> {
         ENDS,
         CATEGORIES,
         COUNTED,
+        MAPPED,
         SIX_TO_EIGHT,
         FIELDS,
         AREA,
@@ -120,7 +121,8 @@ pub fn differences() -> Vec<Case> {
 }
 
 /// Document 01's worked examples alone, without that of Subtract and the trap of
-/// short category lists, which document 02 gives other answers.
+/// short category lists, which document 02 gives other answers. That of Abs {-3,3}
+/// has the answer of document 02: "The example becomes {3}".
 pub fn shelf() -> Vec<Case> {
     SHELF.iter().map(Case::new).collect()
 }
@@ -141,7 +143,7 @@ const SHELF: &[Row] = &[
     ("Negative [-5,_]", 9, "W[-5,_]", "empty", "W[_,5]"),
     ("Negative [-2^63,0]", 9, "W[-9223372036854775808,0]", "empty", "24"),
     ("Add {1,2},{10,11}", 2, "W{1,2}", "W{10,11}", "W{11,12,13}"),
-    ("Abs {-3,3}", 1, "W{-3,3}", "empty", "W{3,3}"),
+    ("Abs {-3,3}", 1, "W{-3,3}", "empty", "W{3}"),
     ("16 columns pass", 1, "W[-5,3] columns=16", "empty", "W[-3,5]*16 columns=16"),
     ("17 columns give 4", 1, "W[-5,3] @40=17", "empty", "4"),
     ("16 columns pass in Add", 2, "W[1,2] columns=16", "W[10,20]", "W[11,22]*16 columns=16"),
@@ -386,8 +388,8 @@ const CATEGORIES: &[Row] = &[
     ("65 over two columns", 9, "W{1..65} columns=2", "empty", "26"),
     ("64 over two columns", 9, "W{-64..-1} columns=2", "empty", "W{64,63,62,61,60,59,58,57,56,55,54,53,52,51,50,49,48,47,46,45,44,43,42,41,40,39,38,37,36,35,34,33,32,31,30,29,28,27,26,25,24,23,22,21,20,19,18,17,16,15,14,13,12,11,10,9,8,7,6,5,4,3,2,1}*2"),
     ("Negative drops repeats before it maps", 9, "W{3,3}", "empty", "W{-3}"),
-    ("Abs keeps what repeats after", 1, "W{-3,3,-3}", "empty", "W{3,3}"),
-    ("Abs {3,3,-3}", 1, "W{3,3,-3}", "empty", "W{3,3}"),
+    ("Abs drops what repeats after", 1, "W{-3,3,-3}", "empty", "W{3}"),
+    ("Abs {3,3,-3}", 1, "W{3,3,-3}", "empty", "W{3}"),
     ("128 repeats over two columns", 1, "W{1*128} columns=2", "empty", "W{1}*2"),
     ("{1} / {}", 5, "W{1}", "W{}", "W{}"),
     ("{} / {0}", 5, "W{}", "W{0}", "W{}"),
@@ -451,6 +453,34 @@ const COUNTED: &[Row] = &[
     ("Int Power: 15 before 29", 8, "W{1}", "W{1}{2} columns=2", "15"),
     ("Modulo: 15 before 29", 6, "W{1}{2} columns=3", "W{1}{2} columns=3", "15"),
     ("Modulo of two lists over three columns by a range", 6, "W{1}{2} columns=3", "W[3,8]", "absent columns=3"),
+];
+
+/// No repeats after Abs and Negative (document 02, S-6).
+#[rustfmt::skip] // one case a line
+const MAPPED: &[Row] = &[
+    ("Abs {2,-3,3,-2,2}", 1, "W{2,-3,3,-2,2}", "empty", "W{2,3}"),
+    ("Abs: the first occurrence stays", 1, "W{1,2,-1}", "empty", "W{1,2}"),
+    ("Abs: what is left is not sorted", 1, "W{5,-1,1}", "empty", "W{5,1}"),
+    ("Abs: repeats go in each of two lists", 1, "W{0,-1,1}{5,-5} columns=2", "empty", "W{0,1}{5} columns=2"),
+    ("Abs: one value in two lists", 1, "W{3}{-3} columns=2", "empty", "W{3}{3} columns=2"),
+    ("Negative {3,3,-3}", 9, "W{3,3,-3}", "empty", "W{-3,3}"),
+    ("Negative keeps both signs", 9, "W{-3,3}", "empty", "W{3,-3}"),
+    ("Abs of 64 pairs", 1, "W{+-1..64}", "empty", "W{1..64}"),
+    ("Abs of 64 pairs over two columns", 1, "W{+-1..64} columns=2", "empty", "W{1..64}*2 columns=2"),
+    ("Abs of 64 pairs over three columns", 1, "W{+-1..64} columns=3", "empty", "26"),
+    ("Abs of 63 pairs and two over two columns", 1, "W{+-1..63,64,65} columns=2", "empty", "26"),
+    ("Negative of 64 pairs over two columns", 9, "W{+-1..64} columns=2", "empty", "26"),
+    ("Negative of 64 values twice over two columns", 9, "W{-64..-1,-64..-1} columns=2", "empty", "W{64,63,62,61,60,59,58,57,56,55,54,53,52,51,50,49,48,47,46,45,44,43,42,41,40,39,38,37,36,35,34,33,32,31,30,29,28,27,26,25,24,23,22,21,20,19,18,17,16,15,14,13,12,11,10,9,8,7,6,5,4,3,2,1}*2 columns=2"),
+    ("Abs of eight pairs and zero over 14 columns", 1, "W{-8..8} columns=14", "empty", "W{8,7,6,5,4,3,2,1,0}*14 columns=14"),
+    ("Abs of 64 times -7 and 64 times 7 over 16 columns", 1, "W{-7*64,7*64} columns=16", "empty", "W{7}*16 columns=16"),
+    ("Abs: 24 behind a repeat", 1, "W{1,-1,-9223372036854775808}", "empty", "24"),
+    ("Abs: 24 behind a full store", 1, "W{1..127,-9223372036854775808} columns=2", "empty", "24"),
+    ("Negative: 24 behind a full store", 9, "W{1..127,-9223372036854775808} columns=2", "empty", "24"),
+    ("Abs: 24 behind pairs that are too many", 1, "W{+-1..63,-9223372036854775808} columns=3", "empty", "24"),
+    ("Abs: 24 in a second list", 1, "W{1,-1}{-9223372036854775808} columns=2", "empty", "24"),
+    ("Abs: the magnitude of -2^63 + 1", 1, "W{9223372036854775807,-9223372036854775807}", "empty", "W{9223372036854775807}"),
+    ("Abs: 29 before repeats are looked at", 1, "W{-3,3}{1} columns=3", "empty", "29"),
+    ("Add reads what Abs left once", 2, "W{3}", "W{3}", "W{6}"),
 ];
 
 /// Modulo, Log and Power.
@@ -790,6 +820,10 @@ const OUTPUTS: &[OutputRow] = &[
     ("104 bytes for 105 of texts", 2, "T{pump,fan}", "T{_}", 1, 104, "27"),
     ("28 before 27", 2, "T{a*600}", "T{b*425}", 1, 0, "28"),
     ("29 before 27", 1, "W{1}{2} columns=3", "empty", 1, 0, "29"),
+    ("89 bytes for Abs {-3,3}", 1, "W{-3,3}", "empty", 1, 89, "W{3}"),
+    ("88 bytes for 89 of Abs {-3,3}", 1, "W{-3,3}", "empty", 1, 88, "27"),
+    ("1,232 bytes for Abs of 64 pairs over two columns", 1, "W{+-1..64} columns=2", "empty", 1, 1232, "W{1..64}*2 columns=2"),
+    ("1,231 bytes for 1,232 of Abs of 64 pairs", 1, "W{+-1..64} columns=2", "empty", 1, 1231, "27"),
     ("80 bytes for Modulo of texts", 6, "T{abc}", "W[3,8]", 1, 80, "absent"),
     ("the node is unsigned", 2, "W[1,2]", "W[10,20]", 4294967295, LONGEST, "W[11,22] node=4294967295"),
     ("node 0", 4, "W[1,2]", "W[10,20]", 0, LONGEST, "W[10,40] node=0"),
@@ -798,16 +832,16 @@ const OUTPUTS: &[OutputRow] = &[
 #[cfg(test)]
 mod tests {
     use super::{all, differences, pool, raw, Case};
-    use crate::form::{is_range_subtract, miscounted, Call, MISCOUNTED};
+    use crate::form::{is_range_subtract, is_unary, miscounted, Call, MISCOUNTED};
     use crate::sheet::Sheet;
     use std::collections::HashSet;
 
     /// The first of 3, 4 and 5 that the sheets of a case meet.
     fn refusal(case: &Case) -> Option<u32> {
         let left = Sheet::decode(&case.call.left).err();
-        match case.call.component {
-            1 | 9 => left,
-            _ => left.or(Sheet::decode(&case.call.right).err()),
+        match is_unary(case.call.component) {
+            true => left,
+            false => left.or(Sheet::decode(&case.call.right).err()),
         }
     }
 

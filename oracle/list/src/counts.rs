@@ -1,6 +1,6 @@
 //! What calls make of several category lists, and where they say 29 (document 02, S-5).
 
-use crate::form::{miscounted, Operand, MISCOUNTED};
+use crate::form::{is_unary, miscounted, Operand, MISCOUNTED};
 use crate::sheet::{AT_COLUMNS, AT_LISTS, AT_NATURE, TEXT};
 use std::fmt;
 
@@ -38,7 +38,7 @@ impl Counts {
             Some(Operand::Right) => self.count_refused(1, right),
             None => {
                 self.count_accepted(left, sheet);
-                if component != 1 && component != 9 {
+                if !is_unary(component) {
                     self.count_accepted(right, sheet);
                 }
             }

@@ -11,6 +11,11 @@ pub const SUBTRACT: u32 = 3;
 /// The component whose output has left's columns, of those that combine lists.
 const POWER: u32 = 8;
 
+/// Abs and Negative, which read left alone and map its categories.
+pub fn is_unary(component: u32) -> bool {
+    component == 1 || component == 9
+}
+
 /// The refusal that document 02 adds behind 20, which the original has not.
 pub const MISCOUNTED: u32 = 29;
 
@@ -73,7 +78,8 @@ pub fn miscounted(component: u32, left: &[u8], right: &[u8], code: u32) -> Optio
 pub enum Mark {
     /// The original text's.
     Rust,
-    /// The documents' additions: 2 to 5, 26 to 29, and 24 by unchecked arithmetic.
+    /// The documents' additions: 2 to 5, 26 to 29, 24 by unchecked arithmetic, and
+    /// mapped lists that lost repeats.
     Added,
     /// The project's decision on Log over two whole ranges.
     Decided,

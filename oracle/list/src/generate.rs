@@ -5,7 +5,7 @@ mod disturb;
 mod numbers;
 mod texts;
 
-use crate::form::{Call, POOL};
+use crate::form::{is_unary, Call, POOL};
 use crate::random::Random;
 use crate::sheet::{Group, Key, Nature, Sheet};
 use numbers::Taste;
@@ -104,10 +104,6 @@ pub fn valid_sheet(random: &mut Random) -> Sheet {
     let component = random.between(1, 9) as u32;
     let (left, right) = pair(random, component);
     random.pick(&[&left, &right]).clone()
-}
-
-fn is_unary(component: u32) -> bool {
-    component == 1 || component == 9
 }
 
 fn node(random: &mut Random) -> u32 {

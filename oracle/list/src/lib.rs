@@ -7,6 +7,7 @@ pub mod counts;
 pub mod form;
 pub mod generate;
 pub mod random;
+pub mod repeats;
 pub mod sheet;
 pub mod show;
 pub mod stats;

@@ -92,10 +92,39 @@ impl Nature {
         self.texts().map(Vec::len).sum()
     }
 
+    /// The same with first occurrences alone, list by list.
+    pub fn without_repeats(&self) -> Nature {
+        match self {
+            Nature::WholeLists(lists) => Nature::WholeLists(firsts(lists)),
+            Nature::BoolLists(lists) => Nature::BoolLists(firsts(lists)),
+            Nature::FloatLists(lists) => Nature::FloatLists(firsts(lists)),
+            Nature::TextLists(lists) => Nature::TextLists(firsts(lists)),
+            other => other.clone(),
+        }
+    }
+
+    /// Whether a list holds a value twice.
+    pub fn has_repeats(&self) -> bool {
+        self.without_repeats().categories() < self.categories()
+    }
+
     /// Whether the original can be handed its texts.
     pub fn is_utf8(&self) -> bool {
         self.texts().all(|text| std::str::from_utf8(text).is_ok())
     }
+}
+
+fn firsts<T: Clone + PartialEq>(lists: &[Vec<T>]) -> Vec<Vec<T>> {
+    let of_list = |list: &Vec<T>| {
+        let mut kept: Vec<T> = Vec::new();
+        for value in list {
+            if !kept.contains(value) {
+                kept.push(value.clone());
+            }
+        }
+        kept
+    };
+    lists.iter().map(of_list).collect()
 }
 
 /// A group's index. A string stands for itself by the collection's number.
@@ -506,6 +535,23 @@ mod tests {
             bytes("B{1}{0}")[80..],
             [0, 1, 1, 0, 0, 0, 0, 0, 0, 0, 0, 0, 0, 0, 0, 0, 0, 0]
         );
+    }
+
+    #[test]
+    fn repeats_go_list_by_list() {
+        for (repeating, once) in [
+            ("W{2,-3,3,-3,2}{2}{}", "W{2,-3,3}{2}{}"),
+            ("B{1,0,1}{1}", "B{1,0}{1}"),
+            ("F{0.0,-0.0,0.0}", "F{0.0,-0.0}"),
+            ("T{a,_,a,_}{a}", "T{a,_}{a}"),
+        ] {
+            let (repeating, once) = (sheet(repeating).nature, sheet(once).nature);
+            assert_eq!(repeating.without_repeats(), once);
+            assert!(repeating.has_repeats() && !once.has_repeats());
+        }
+        for other in ["absent", "W[1,1][1,1]", "Wlists"] {
+            assert!(!sheet(other).nature.has_repeats());
+        }
     }
 
     #[test]

@@ -1,6 +1,6 @@
 //! Sheets as a person reads them: each range with both signs written.
 
-use crate::form::{Answer, Call};
+use crate::form::{is_unary, Answer, Call};
 use crate::sheet::{Ends, Nature, Sheet};
 
 const COMPONENTS: [&str; 9] = [
@@ -14,8 +14,7 @@ pub fn component(number: u32) -> String {
 
 /// A call and its answer on one line.
 pub fn line(call: &Call, answer: &Answer) -> String {
-    let unary = matches!(call.component, 1 | 9);
-    let right = if unary {
+    let right = if is_unary(call.component) {
         String::new()
     } else {
         operand(&call.right)

@@ -1,7 +1,8 @@
 //! What a list holds, and whether it holds enough.
 
 use crate::counts::Counts;
-use crate::form::{Call, Line, Mark, MISCOUNTED, POOL, SUBTRACT};
+use crate::form::{is_unary, Call, Line, Mark, MISCOUNTED, POOL, SUBTRACT};
+use crate::repeats::Repeats;
 use crate::sheet::TEXT;
 use std::collections::{BTreeMap, HashMap, HashSet};
 use std::fmt::Write;
@@ -25,11 +26,21 @@ const LEAST_RANGES: usize = 50;
 /// Of 29 on each side and of each kind, and of several lists that are taken or not
 /// counted.
 const LEAST_COUNTED: usize = 20;
+/// Of Abs: accepted lists that lost repeats, and of these such as would be refused
+/// with 26 if repeats were counted; and of Abs or Negative by the operand's own.
+const LEAST_LOST: usize = 40;
+const LEAST_SPARED: usize = 16;
+const LEAST_SPARED_OWN: usize = 5;
 /// What calls with texts are wanted to be refused with.
 const TEXT_CODES: [u32; 10] = [3, 4, 15, 19, 20, 21, 22, 26, 28, MISCOUNTED];
 
 /// Whether a threshold is met, and what to say if not.
 type Want = (bool, String);
+
+/// So many of something, and at least how many are wanted.
+fn enough((count, least, what): (usize, usize, &str)) -> Want {
+    (count >= least, format!("{count} {what}, wanted {least}"))
+}
 
 /// The refusals a component can give in an oracle run. 25 is in none of them:
 /// categories never get past 15 under Int Power. Subtract's 18 is the range
@@ -87,6 +98,7 @@ pub struct Stats {
     texts: BTreeMap<u32, usize>,
     subtracts: Subtracts,
     counts: Counts,
+    repeats: Repeats,
 }
 
 /// Calls of Subtract.
@@ -125,6 +137,7 @@ impl Stats {
             texts: BTreeMap::new(),
             subtracts: Subtracts::default(),
             counts: Counts::default(),
+            repeats: Repeats::default(),
         };
         for line in lines {
             stats.count(line);
@@ -151,8 +164,10 @@ impl Stats {
             200..=499 => 4,
             _ => 5,
         }] += 1;
-        let unary = call.component == 1 || call.component == 9;
-        let right = if unary { 9 } else { nature(&call.right) };
+        let right = match is_unary(call.component) {
+            true => 9,
+            false => nature(&call.right),
+        };
         let natures = (nature(&call.left), right);
         if natures.0 == TEXT || natures.1 == TEXT {
             *self.texts.entry(answer.code).or_default() += 1;
@@ -162,6 +177,8 @@ impl Stats {
         }
         let read = (call.component, &call.left[..], &call.right[..]);
         self.counts.count(read, answer.code, &answer.bytes);
+        self.repeats
+            .count(call.component, &call.left, &answer.bytes);
         self.subtracts.ranges += usize::from(line.is_range_subtract());
         match (call.component, natures, answer.code) {
             (SUBTRACT, (1, 1) | (2, 2), 6..=14) => self.subtracts.refused += 1,
@@ -182,6 +199,7 @@ impl Stats {
         wants.extend(self.text_wants());
         wants.extend(self.subtract_wants());
         wants.extend(self.count_wants());
+        wants.extend(self.repeat_wants());
         let missed = wants.into_iter().filter(|(holds, _)| !holds);
         missed.map(|(_, text)| text).collect()
     }
@@ -232,9 +250,7 @@ impl Stats {
             (self.outputs.none, LEAST_SHORT, "outputs of no bytes"),
             (self.marks[2], LEAST_REFUSED, "decided answers"),
         ];
-        wants
-            .map(|(count, least, what)| (count >= least, format!("{count} {what}, wanted {least}")))
-            .to_vec()
+        wants.map(enough).to_vec()
     }
 
     /// Enough joined texts, and enough of what texts are refused with.
@@ -292,14 +308,35 @@ impl Stats {
             ),
             (unused, "operands whose lists are not counted"),
         ];
-        let least = LEAST_COUNTED;
-        let enough = |(count, what): (usize, &str)| {
-            (count >= least, format!("{count} {what}, wanted {least}"))
-        };
+        let counted = |(count, what)| enough((count, LEAST_COUNTED, what));
         let none = format!("29 is out of place {wrong} times, wanted none");
-        let mut wants = wants.map(enough).to_vec();
+        let mut wants = wants.map(counted).to_vec();
         wants.push((wrong == 0, none));
         wants
+    }
+
+    /// Enough lists that lost repeats, and enough whose 26 would turn on them.
+    fn repeat_wants(&self) -> Vec<Want> {
+        let Repeats {
+            lost,
+            spared,
+            spared_own,
+            ..
+        } = self.repeats;
+        let wants = [
+            (lost, LEAST_LOST, "lists that lost repeats by the mapping"),
+            (
+                spared,
+                LEAST_SPARED,
+                "lists that their repeats would refuse",
+            ),
+            (
+                spared_own,
+                LEAST_SPARED_OWN,
+                "lists that their operand's repeats would refuse",
+            ),
+        ];
+        wants.map(enough).to_vec()
     }
 
     /// The table of components and codes, and what stands beside it.
@@ -369,7 +406,7 @@ impl Stats {
             "\nSubtract: {} differences of categories, {} pairs of ranges refused before 17, {} range Subtracts",
             self.subtracts.lists, self.subtracts.refused, self.subtracts.ranges
         );
-        let _ = writeln!(text, "{}", self.counts);
+        let _ = writeln!(text, "{}\n{}", self.counts, self.repeats);
         text
     }
 }

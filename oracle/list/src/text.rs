@@ -3,7 +3,8 @@
 //! The nature comes first: `absent`, `W[1,2][3,_]` (whole range, `_` an absent
 //! end), `F[..]`, `W{1,2}{3}` (whole lists), `B{0,1}`, `F{..}`, `T{pump,fan}`;
 //! without any list `Wrange`, `Frange`, `Wlists`, `Blists`, `Flists`, `Tlists`.
-//! `a..b` and `v*k` inside braces and `*k` behind a bracket repeat. Of texts,
+//! `a..b` and `v*k` inside braces and `*k` behind a bracket repeat, and `+-1..64`
+//! are 1, -1, 2, -2 and so on. Of texts,
 //! `_` is the empty one, `ab*3` is `ababab`, `a*0..3` are four of them, `12#50`
 //! are twelve different ones of 50 bytes, `a+b` all joins, and `\e2` is a byte.
 //! Then options `name=value`; `@6=9` puts 9 into byte 6 and `length=80` cuts or
@@ -189,8 +190,16 @@ fn list<T>(text: &str, read: impl Fn(&str) -> T) -> Vec<T> {
 fn whole_list(text: &str) -> Vec<i64> {
     let mut values = Vec::new();
     for word in text.split(',').filter(|word| !word.is_empty()) {
+        let (pairs, word) = match word.strip_prefix("+-") {
+            Some(rest) => (true, rest),
+            None => (false, word),
+        };
         if let Some((first, last)) = word.split_once("..") {
-            values.extend(number::<i64>(first)..=number(last));
+            let run = number::<i64>(first)..=number(last);
+            match pairs {
+                true => values.extend(run.flat_map(|value| [value, -value])),
+                false => values.extend(run),
+            }
         } else if let Some((value, count)) = word.split_once('*') {
             values.extend(vec![number::<i64>(value); number(count)]);
         } else {

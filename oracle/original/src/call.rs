@@ -6,7 +6,9 @@ use crate::messages::{self, BASE_BREAKS, OVERFLOWS};
 use crate::root::value;
 use crate::stand_ins::{proto, Component};
 use indexmap::map::IndexMap;
-use oracle_list::form::{hex, is_range_subtract, miscounted, Answer, Mark, MISCOUNTED, POOL};
+use oracle_list::form::{
+    hex, is_range_subtract, is_unary, miscounted, Answer, Mark, MISCOUNTED, POOL,
+};
 use oracle_list::sheet::{Nature, Sheet, MOST_CATEGORIES, MOST_TEXT};
 use std::cell::Cell;
 use std::panic::{catch_unwind, set_hook, take_hook, AssertUnwindSafe};
@@ -16,7 +18,7 @@ const LOG: u32 = 7;
 
 /// The answer to a single call, by the documents. The order of the checks 6 to
 /// 25 is the original's own; this function adds 2 to 5 before, 29 directly behind
-/// 20, and 26, 28 and 27 after.
+/// 20, and after it takes the repeats out of mapped lists and adds 26, 28 and 27.
 ///
 /// # Panics
 /// If the original ends in a way that has no number, on permitted sheets that it
@@ -44,14 +46,22 @@ pub fn asked(
         // What the original says of such lists is no answer.
         _ if miscounted(component, left, right, code).is_some() => refuse(MISCOUNTED, Mark::Added),
         Err(refusal) => refusal,
-        Ok(sheet) => written(&sheet, out_len),
+        Ok(sheet) => written(component, sheet, out_len),
     };
     let other_ends = is_range_subtract(component, left, right, answer.code);
     (!other_ends).then_some(answer)
 }
 
-/// 26, 28 and 27 of a derived sheet, or its bytes.
-fn written(sheet: &Sheet, out_len: usize) -> Answer {
+/// 26, 28 and 27 of a derived sheet, or its bytes. Before that mapped lists lose
+/// their repeats (document 02, S-6), so that 26 counts what is left and a next step
+/// reads it: "The oracle's lists for these two lose their repeats before comparing".
+/// Products have none, since the original takes them out itself.
+fn written(component: u32, mut sheet: Sheet, out_len: usize) -> Answer {
+    let mut mark = Mark::Rust;
+    if is_unary(component) && sheet.nature.has_repeats() {
+        sheet.nature = sheet.nature.without_repeats();
+        mark = Mark::Added;
+    }
     if sheet.nature.categories() > MOST_CATEGORIES {
         return refuse(26, Mark::Added);
     }
@@ -62,7 +72,6 @@ fn written(sheet: &Sheet, out_len: usize) -> Answer {
     if bytes.len() > out_len {
         return refuse(27, Mark::Added);
     }
-    let mark = Mark::Rust;
     Answer {
         code: 0,
         bytes,
@@ -75,16 +84,17 @@ fn refuse(code: u32, mark: Mark) -> Answer {
     Answer { code, bytes, mark }
 }
 
-/// The derived sheet before 29, 26, 28 and 27, or the refusal.
+/// The sheet as the original derives it, or the refusal: before 29, and before what
+/// `written` adds.
 fn accept(component: u32, node: u32, left: &[u8], right: &[u8]) -> Result<Sheet, Answer> {
     if !(1..=POOL).contains(&component) {
         return Err(refuse(2, Mark::Added));
     }
     let decode = |bytes| Sheet::decode(bytes).map_err(|code| refuse(code, Mark::Added));
     let data = decode(left)?;
-    let other = match component {
-        1 | 9 => None,
-        _ => Some(decode(right)?),
+    let other = match is_unary(component) {
+        true => None,
+        false => Some(decode(right)?),
     };
     if let Some(why) = outside(component, &data, other.as_ref()) {
         fail(why, component, node, left, right);
@@ -237,10 +247,10 @@ fn silence_panics() {
 #[cfg(test)]
 mod tests {
     use super::{accept, asked};
-    use oracle_list::form::MISCOUNTED;
+    use oracle_list::form::{is_unary, Mark, MISCOUNTED};
     use oracle_list::generate::call_for;
     use oracle_list::random::Random;
-    use oracle_list::sheet::LONGEST;
+    use oracle_list::sheet::{Sheet, LONGEST};
     use std::collections::BTreeMap;
 
     /// 29 stands for whatever the original says behind 20: it accepts such lists,
@@ -271,5 +281,37 @@ mod tests {
         let codes: Vec<u32> = words.keys().copied().collect();
         assert_eq!(codes, [0, 19, 20, 21, 22, 24], "{:?}", words);
         assert!(words.values().all(|count| *count > 50), "{:?}", words);
+    }
+
+    /// Of what the original accepts, lists of Abs alone have repeats. They lose them
+    /// and nothing else, and the mark says so; 26 counts what is left.
+    #[test]
+    fn mapped_lists_lose_repeats() {
+        let mut random = Random::new(8);
+        let (mut kept, mut lost, mut spared) = (0, 0, 0);
+        for turn in 0..20_000 {
+            let component = [1, 9, 2, 3, 4, 5][turn % 6];
+            let aim = random.pick(&[0, 26]);
+            let call = call_for(&mut random, component, aim);
+            let (left, right) = (&call.left, &call.right);
+            let Ok(mut sheet) = accept(component, call.node, left, right) else {
+                continue;
+            };
+            let repeats = sheet.nature.has_repeats();
+            assert!(!repeats || component == 1, "{:?}", call);
+            let before = sheet.nature.categories();
+            sheet.nature = sheet.nature.without_repeats();
+            let answer = asked(component, call.node, left, right, LONGEST);
+            let Some(answer) = answer.filter(|answer| answer.code == 0) else {
+                continue;
+            };
+            assert_eq!(Sheet::decode_unordered(&answer.bytes), Ok(sheet));
+            let mark = if repeats { Mark::Added } else { Mark::Rust };
+            assert_eq!(answer.mark, mark);
+            kept += usize::from(is_unary(component) && !repeats);
+            lost += usize::from(repeats);
+            spared += usize::from(before > 128);
+        }
+        assert!(kept > 1000 && lost > 500 && spared > 100);
     }
 }

@@ -4,9 +4,10 @@
 use crate::{answer, asked};
 use oracle_list::cases;
 use oracle_list::counts::Counts;
-use oracle_list::form::{Answer, Call, Line, Mark, SUBTRACT};
+use oracle_list::form::{is_unary, Answer, Call, Line, Mark, SUBTRACT};
 use oracle_list::generate::{bad_component, call, call_for, call_towards, AIMS};
 use oracle_list::random::Random;
+use oracle_list::repeats::Repeats;
 use oracle_list::sheet::LONGEST;
 use oracle_list::stats::reachable;
 use std::collections::{HashMap, HashSet};
@@ -16,6 +17,9 @@ const ACCEPTED: usize = 160;
 const REFUSED: usize = 16;
 const DECIDED: usize = 24;
 const OUTPUT_LISTS: usize = 16;
+const LOST_REPEATS: usize = 24;
+const SPARED: usize = 20;
+const SPARED_OWN: usize = 8;
 const TWOFOLD: usize = 50;
 /// An output longer than any sheet.
 const LONGER: usize = 3000;
@@ -89,9 +93,12 @@ fn write_head(seed: u64, out: &mut impl Write) -> io::Result<()> {
     )?;
     writeln!(
         out,
-        "# it (2 to 5, 26 to 29, and 24 by unchecked arithmetic); decided, Log over two"
+        "# it (2 to 5, 26 to 29, 24 by unchecked arithmetic, and lists of Abs that lost"
     )?;
-    writeln!(out, "# whole ranges, where the project answers 15.")?;
+    writeln!(
+        out,
+        "# repeats); decided, Log over two whole ranges, where the project answers 15."
+    )?;
     writeln!(out, "# Made by: oracle list --seed {}", seed)
 }
 
@@ -180,9 +187,24 @@ impl Selection {
         };
         lines.extend(self.fill_with(OUTPUT_LISTS, pair, has_output_lists));
         self.spread.clear();
+        lines.extend(self.fill_repeats());
         for component in 1..=9 {
             lines.extend(self.fill_twofold(component));
         }
+        lines
+    }
+
+    /// Lists of Abs that lost repeats; and lists that would be refused with 26 if
+    /// those were counted, or the operand's own.
+    fn fill_repeats(&mut self) -> Vec<Line> {
+        let short = |random: &mut Random| call_for(random, 1, 0);
+        let long = |random: &mut Random| {
+            let component = random.pick(&[1, 9]);
+            call_for(random, component, 26)
+        };
+        let mut lines = self.fill_with(LOST_REPEATS, short, |line| repeats(line).lost > 0);
+        lines.extend(self.fill_with(SPARED, long, |line| repeats(line).spared > 0));
+        lines.extend(self.fill_with(SPARED_OWN, long, |line| repeats(line).spared_own > 0));
         lines
     }
 
@@ -281,6 +303,14 @@ impl Selection {
     }
 }
 
+/// What a mapped list of a call lost.
+fn repeats(line: &Line) -> Repeats {
+    let mut repeats = Repeats::default();
+    let Line { call, answer } = line;
+    repeats.count(call.component, &call.left, &answer.bytes);
+    repeats
+}
+
 /// Whether an operand has a list for each of the output's columns, and not for each of
 /// its own.
 fn has_output_lists(line: &Line) -> bool {
@@ -295,7 +325,9 @@ fn has_output_lists(line: &Line) -> bool {
 fn spread_key(line: &Line) -> (u32, u32, u8, u8) {
     let nature = |sheet: &[u8]| sheet.get(6).map_or(9, |nature| (*nature).min(9));
     let call = &line.call;
-    let unary = call.component == 1 || call.component == 9;
-    let right = if unary { 9 } else { nature(&call.right) };
+    let right = match is_unary(call.component) {
+        true => 9,
+        false => nature(&call.right),
+    };
     (call.component, line.answer.code, nature(&call.left), right)
 }

@@ -208,6 +208,39 @@ fn lists_are_counted() {
     assert_eq!(mark(2, "W{1}{2}", "W{1} columns=2"), (0, Mark::Rust));
 }
 
+/// Abs and Negative answer with first occurrences, list by list, and 26 counts them;
+/// where one went the answer is not the original's own. 24 comes before 26.
+#[test]
+fn mapped_lists_lose_repeats() {
+    let mapped = |component, left: &str| {
+        let found = answer(component, 1, &bytes(left), &[], LONGEST);
+        (found.code, found.mark, found.bytes)
+    };
+    let (added, rust) = (Mark::Added, Mark::Rust);
+    let pairs = |columns| format!("W{{+-1..64}} columns={}", columns);
+    for (component, left, mark, derived) in [
+        (1, "W{-3,3}", added, "W{3}"),
+        (1, "W{2,-3,3,-2,2}", added, "W{2,3}"),
+        (1, "W{0,-1,1}{5,-5} columns=2", added, "W{0,1}{5} columns=2"),
+        (1, "W{3}{-3} columns=2", rust, "W{3}{3} columns=2"),
+        // The original takes the operand's own repeats out itself.
+        (1, "W{1*128} columns=2", rust, "W{1}*2 columns=2"),
+        (1, &pairs(2), added, "W{1..64}*2 columns=2"),
+        (9, "W{3,3,-3}", rust, "W{-3,3}"),
+    ] {
+        assert_eq!(mapped(component, left), (0, mark, bytes(derived)));
+    }
+    for (component, left, code) in [
+        (1, &pairs(3)[..], 26),
+        (9, &pairs(2), 26),
+        (1, "W{1,-1,-9223372036854775808}", 24),
+        (1, "W{1..127,-9223372036854775808} columns=2", 24),
+        (1, "W{-3,3}{1} columns=3", 29),
+    ] {
+        assert_eq!(mapped(component, left), (code, added, Vec::new()));
+    }
+}
+
 /// Among seeded calls 29 stands where lists are miscounted, and nowhere else.
 #[test]
 fn seeded_lists_are_counted() {

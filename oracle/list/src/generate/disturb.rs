@@ -2,7 +2,7 @@
 
 use super::numbers::{self, Scale, Taste};
 use super::texts;
-use crate::form::POOL;
+use crate::form::{is_unary, POOL};
 use crate::random::Random;
 use crate::sheet::{Key, Nature, Sheet, MOST_LISTS, MOST_TEXT, TEXT};
 
@@ -28,6 +28,7 @@ pub fn sheets(random: &mut Random, aim: u32, component: u32, left: &mut Sheet, r
             many_texts(random, component, left, right)
         }
         26 if component == POOL => long_unions(random, left, right),
+        26 if is_unary(component) => many_mapped(random, left),
         26 => many_categories(random, left, right),
         28 => long_texts(random, component, left, right),
         29 => miscounts(random, component, left, right),
@@ -50,7 +51,7 @@ fn make_private(sheet: &mut Sheet) {
 
 /// 5, 6 and 7 on one operand.
 fn one_operand(random: &mut Random, aim: u32, component: u32, left: &mut Sheet, right: &mut Sheet) {
-    let unary = component == 1 || component == 9;
+    let unary = is_unary(component);
     let first = unary || random.percent(50);
     let sheet = if first { left } else { right };
     if aim == 5 {
@@ -223,7 +224,7 @@ fn natures(random: &mut Random, aim: u32, component: u32, left: &mut Sheet, righ
     left.nature = super::nature(random, kinds.0, taste, 1);
     right.nature = super::nature(random, kinds.1, taste, 1);
     if aim == 20 {
-        let sheet = if component == 1 || component == 9 || random.percent(50) {
+        let sheet = if is_unary(component) || random.percent(50) {
             left
         } else {
             right
@@ -247,7 +248,7 @@ fn wrong_count(random: &mut Random, component: u32, left: &mut Sheet, right: &mu
     let taste_of_right = if component == 7 { taste.base() } else { taste };
     left.nature = super::nature(random, kind, taste, 1);
     right.nature = super::nature(random, kind, taste_of_right, 1);
-    let first = component == 1 || component == 9 || random.percent(50);
+    let first = is_unary(component) || random.percent(50);
     let nature = if first {
         &mut left.nature
     } else {
@@ -289,7 +290,7 @@ fn miscounts(random: &mut Random, component: u32, left: &mut Sheet, right: &mut 
     let counts: Vec<usize> = counts.collect();
     left.nature = super::nature(random, kinds.0, taste, output as i64);
     right.nature = super::nature(random, kinds.1, taste, output as i64);
-    let unary = component == 1 || component == 9;
+    let unary = is_unary(component);
     let (sheet, kind) = match unary || random.percent(50) {
         true => (left, kinds.0),
         false => (right, kinds.1),
@@ -387,6 +388,37 @@ fn many_categories(random: &mut Random, left: &mut Sheet, right: &mut Sheet) {
         divisors.iter_mut().for_each(|value| *value *= long);
     }
     right.nature = Nature::WholeLists(vec![divisors]);
+}
+
+/// 26 under Abs and Negative: one list that spreads, with about 128 values as they
+/// would be written; before repeats go, often more. Now and then 24 stands last.
+fn many_mapped(random: &mut Random, left: &mut Sheet) {
+    let columns = random.pick(&[1, 2, 2, 2, 3, 4, 8, 16]);
+    let most = (128 / columns + random.between(-1, 1)).min(128);
+    let mut list: Vec<i64> = (1..=most).collect();
+    match random.below(8) {
+        // Across zero.
+        0 | 1 => {
+            let start = random.between(-most, 5);
+            list = (start..=start + most).collect();
+        }
+        // Some with their negatives, or all, in any order of the two.
+        2..=5 => {
+            let twins = random.pick(&[1, most / 2, most]);
+            list.extend((1..=twins).map(|value| -value));
+            let turn = random.below(list.len());
+            list.rotate_left(turn);
+        }
+        6 => list.extend_from_within(..),
+        _ => (),
+    }
+    list.truncate(128);
+    if random.percent(10) {
+        list.pop();
+        list.push(i64::MIN);
+    }
+    left.columns = Some(columns);
+    left.nature = Nature::WholeLists(vec![list]);
 }
 
 fn most_columns(left: &Sheet, right: &Sheet) -> usize {

@@ -114,13 +114,20 @@ impl Taste {
         ((!lower).then_some(ends[0]), (!upper).then_some(ends[1]))
     }
 
+    /// In one list of five a value's negative stands last, which Abs makes one of
+    /// the two.
     pub fn whole_list(self, random: &mut Random) -> Vec<i64> {
         let length = random.pick(&[0, 1, 1, 2, 2, 3, 3, 4, 6]);
         let value = |random: &mut Random| match (self.zone, whole(random, self.scale)) {
             (Zone::Anywhere, value) => value,
             (_, value) => value.saturating_abs().max(1),
         };
-        (0..length).map(|_| value(random)).collect()
+        let mut list: Vec<i64> = (0..length).map(|_| value(random)).collect();
+        if length > 0 && matches!(self.zone, Zone::Anywhere) && random.percent(20) {
+            let twin = random.pick(&list);
+            list.push(twin.saturating_neg());
+        }
+        list
     }
 }
 
