@@ -74,6 +74,7 @@ fn count(tally: &mut Tally, call: &Request, wanted: &Expected) {
     tally.count_texts(read, wanted.code, &wanted.bytes);
     tally.count_subtract(read, wanted.code, &wanted.bytes);
     tally.count_lists(read, wanted.code, &wanted.bytes);
+    tally.count_repeats(call.component, call.left, &wanted.bytes);
     tally.count_range(call.component, &wanted.bytes);
     if call.component == POOL {
         tally.count_pool(wanted.code, &wanted.bytes);
@@ -275,7 +276,11 @@ mod tests {
         assert!(counts.sides.iter().min() > Some(&40), "{tally}");
         assert!(counts.kinds.iter().min() > Some(&20), "{tally}");
         assert!(counts.taken.iter().min() > Some(&3), "{tally}");
-        assert!(counts.unused > 20 && tally.listed() > 100, "{tally}");
+        assert!(counts.unused > 20, "{tally}");
+        assert!(tally.listed().iter().min() > Some(&20), "{tally}");
+        let repeats = tally.repeats();
+        assert!(repeats.lost > 10 && repeats.repeating > 10, "{tally}");
+        assert!(repeats.spared > 0 && repeats.spared_own > 0, "{tally}");
         assert!(
             tally.of(0) > 400 && tally.of(3) > 100 && tally.of(4) > 100 && tally.of(27) > 20,
             "{tally}"

@@ -5,11 +5,12 @@
 mod leaves;
 
 use crate::exact::{Exact, TooLong};
-use crate::plans::{self, is_unary, Draft, Step, MOST_NODES, PLANS, SLOT};
+use crate::plans::{self, Draft, Step, MOST_NODES, PLANS, SLOT};
 use crate::tally::Tally;
 use crate::Reply;
-use oracle_list::form::{hex, MISCOUNTED, POOL, SUBTRACT};
+use oracle_list::form::{hex, is_unary, MISCOUNTED, POOL, SUBTRACT};
 use oracle_list::random::Random;
+use oracle_list::repeats::Repeats;
 use oracle_list::sheet::{Nature, Sheet};
 use oracle_list::stats::NAMES;
 use std::fmt;
@@ -59,6 +60,7 @@ pub struct Counts {
     /// Log on operands that meet the premises, refused as it has to be.
     pub log_refused: usize,
     pub counting: Counting,
+    pub repeats: Repeats,
 }
 
 /// Who counts the category lists of a plan's leaves.
@@ -119,7 +121,7 @@ impl fmt::Display for Counts {
             "range Subtract: {} steps; of {} results {lowers} are the lower end, {uppers} the upper",
             self.subtracts, self.subtracted
         )?;
-        writeln!(f, "{}", self.counting)?;
+        writeln!(f, "{}\n{}", self.counting, self.repeats)?;
         write!(
             f,
             "{} rows ({} with a number beyond 64 bits) and {} given up as too long; {} results held against {} present ends and {} lists",
@@ -140,15 +142,7 @@ pub fn generated(seed: u64, count: usize) -> Counts {
         };
         counts.tally.count(0);
         count_leaves(&draft, &sheets, &mut counts.counting);
-        for (step, sheet) in draft.steps.iter().zip(&sheets[draft.leaves.len()..]) {
-            counts.steps[step.component as usize - 1] += 1;
-            counts.subtracts += usize::from(is_difference(step, sheet));
-            counts.natures[match sheet.nature {
-                Nature::Absent => 0,
-                Nature::WholeRange(_) | Nature::FloatRange(_) => 1,
-                _ => 2,
-            }] += 1;
-        }
+        count_steps(&draft, &sheets, &mut counts);
         for turn in 0..ROWS {
             let leaves = sheets[..draft.leaves.len()].iter();
             let numbers = leaves.map(|leaf| leaves::numbers(&mut random, leaf, turn));
@@ -160,6 +154,30 @@ pub fn generated(seed: u64, count: usize) -> Counts {
         }
     }
     counts
+}
+
+/// Counts the steps of a plan that meets the premises. A derived list that repeats a
+/// value is a difference.
+fn count_steps(draft: &Draft, sheets: &[Sheet], counts: &mut Counts) {
+    for (step, sheet) in draft.steps.iter().zip(&sheets[draft.leaves.len()..]) {
+        counts.steps[step.component as usize - 1] += 1;
+        counts.subtracts += usize::from(is_difference(step, sheet));
+        counts.natures[match sheet.nature {
+            Nature::Absent => 0,
+            Nature::WholeRange(_) | Nature::FloatRange(_) => 1,
+            _ => 2,
+        }] += 1;
+        if is_unary(step.component) && has_lists(sheet) {
+            let left = sheets[step.left].encode();
+            let derived = sheet.encode();
+            counts.repeats.count(step.component, &left, &derived);
+        }
+        if sheet.nature.has_repeats() {
+            counts
+                .tally
+                .differ(|| show(draft, "a derived list repeats a value"));
+        }
+    }
 }
 
 /// Counts a plan that meets the premises by who counts its leaves' lists.
@@ -618,6 +636,8 @@ mod tests {
         );
         assert!(counting.outside.min(counting.refused) > 40, "{counts}");
         assert!(counting.elsewhere > 4, "{counts}");
+        let repeats = &counts.repeats;
+        assert!(repeats.lost > 50 && repeats.spared > 1, "{counts}");
     }
 
     /// The sheets of an accepted plan of two leaves and one step, and the step.
@@ -747,6 +767,26 @@ mod tests {
         }
         assert_eq!((counts.tally.differences, counts.rows), (0, 2));
         assert_eq!((counts.subtracted, counts.reached), (2, [0, 0]));
+    }
+
+    /// Values that Abs makes alike are one result: rows of both signs keep to what is
+    /// left, there and in the step that reads it.
+    #[test]
+    fn values_that_become_one_are_contained() {
+        let mut draft = Draft::new(vec![text::bytes("W{-3,3,5}")]);
+        draft.steps = vec![plans::step(1, 0, 0), plans::step(2, 1, 1)];
+        let mut counts = Counts::default();
+        let sheets = run(&draft, (0, 3), &mut counts).expect("an accepted plan");
+        assert_eq!(sheets[1].nature, text::sheet("W{3,5}").nature);
+        assert_eq!(sheets[2].nature, text::sheet("W{6,8,10}").nature);
+        count_steps(&draft, &sheets, &mut counts);
+        assert_eq!((counts.repeats.lost, counts.tally.differences), (1, 0));
+        for number in [-3, 3, 5] {
+            let mut row = one_column(&[number]);
+            row.sides.push(Side::Left);
+            let fault = violation(&draft.steps, &sheets, row, &mut counts);
+            assert_eq!(fault, Ok(None), "{number}");
+        }
     }
 
     /// A plan of these leaves and steps: the reply, and whether it meets the premises

@@ -1,8 +1,7 @@
 //! The answer to a single call that the library and the port are held against.
 
 use crate::guard::Expected;
-use crate::plans::is_unary;
-use oracle_list::form::{hex, is_range_subtract, miscounted, MISCOUNTED, POOL};
+use oracle_list::form::{hex, is_range_subtract, is_unary, miscounted, MISCOUNTED, POOL};
 use oracle_list::sheet::{Sheet, LONGEST, TEXT};
 
 /// The original text's answer; the port's where the original has none, for Pool

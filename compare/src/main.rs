@@ -52,7 +52,7 @@ fn run(words: &[&str]) -> Result<usize, String> {
         }
         ["store-plans", options @ ..] => {
             let [seed] = numbers(options, [("--seed", None)])?;
-            print!("{}", stored::text(seed));
+            print!("{}", stored::made(seed));
             Ok(0)
         }
         ["list-plans", file] => replayed(file, stored::replay),

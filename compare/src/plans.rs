@@ -1,16 +1,18 @@
 //! Plans: drawn, answered by walking the oracle step by step, and compared. A
 //! step that the oracle has not, of Pool or over a text that is no UTF-8, and a
 //! range Subtract, which it answers by another rule, is taken by the port. 29 at a
-//! step is the oracle's own test, not the original's word.
+//! step is the oracle's own test, not the original's word, and mapped lists have lost
+//! their repeats before a next step reads them.
 
 use crate::draw;
 use crate::judge;
 use crate::tally::Tally;
 use crate::Reply;
 use oracle_list::counts::Counts;
-use oracle_list::form::{hex, is_range_subtract, POOL, SUBTRACT};
+use oracle_list::form::{hex, is_range_subtract, is_unary, POOL, SUBTRACT};
 use oracle_list::generate;
 use oracle_list::random::Random;
+use oracle_list::repeats::Repeats;
 use oracle_list::sheet::{
     Sheet, HEAD, LONGEST, MOST_CATEGORIES, MOST_GROUPS, MOST_LISTS, MOST_TEXT, TEXT,
 };
@@ -75,10 +77,6 @@ pub struct Request {
 pub struct Expected {
     pub reply: Reply,
     pub derived: Vec<Vec<u8>>,
-}
-
-pub fn is_unary(component: u32) -> bool {
-    component == 1 || component == 9
 }
 
 impl Draft {
@@ -152,18 +150,30 @@ impl Draft {
         false
     }
 
+    /// Its accepted steps with their sheets.
+    fn derived(&self) -> impl Iterator<Item = (&Step, &Vec<u8>)> {
+        self.steps.iter().zip(&self.sheets[self.leaves.len()..])
+    }
+
     /// Whether a step of a component was given a nature of this number.
     pub fn derives(&self, component: u32, nature: u8) -> bool {
-        let derived = self.steps.iter().zip(&self.sheets[self.leaves.len()..]);
-        derived
-            .into_iter()
+        self.derived()
             .any(|(step, sheet)| step.component == component && sheet[6] == nature)
+    }
+
+    /// What its accepted steps make of repeats.
+    pub fn repeats(&self) -> Repeats {
+        let mut repeats = Repeats::default();
+        for (step, sheet) in self.derived() {
+            repeats.count(step.component, &self.sheets[step.left], sheet);
+        }
+        repeats
     }
 
     /// What its accepted steps make of several category lists.
     pub fn counts(&self) -> Counts {
         let mut counts = Counts::default();
-        for (step, sheet) in self.steps.iter().zip(&self.sheets[self.leaves.len()..]) {
+        for (step, sheet) in self.derived() {
             let (left, right) = (&self.sheets[step.left], &self.sheets[step.right]);
             counts.count((step.component, left, right), 0, sheet);
         }
@@ -180,11 +190,15 @@ impl Draft {
     }
 }
 
+/// Mapped lists in a hundred that are about as long as 26 permits.
+const LONG: usize = 20;
+
 /// Two sheets that suit a component, or one; texts are now and then no UTF-8.
 fn operands(random: &mut Random) -> Vec<Vec<u8>> {
     loop {
         let component = component(random, &ALL);
-        let call = generate::call_for(random, component, 0);
+        let long = is_unary(component) && random.percent(LONG);
+        let call = generate::call_for(random, component, if long { 26 } else { 0 });
         let mut sheets = vec![call.left];
         if !is_unary(component) {
             sheets.push(call.right);
@@ -276,7 +290,7 @@ fn refused_operands(
     }
 }
 
-fn step(component: u32, left: usize, right: usize) -> Step {
+pub fn step(component: u32, left: usize, right: usize) -> Step {
     Step {
         component,
         left,
@@ -505,6 +519,7 @@ fn count_steps(tally: &mut Tally, request: &Request, wanted: &Expected) {
         tally.count_texts(read, code, sheet);
         tally.count_subtract(read, code, sheet);
         tally.count_lists(read, code, sheet);
+        tally.count_repeats(step.component, &sheets[step.left], sheet);
         tally.count_range(step.component, sheet);
     }
 }
@@ -601,6 +616,7 @@ pub fn generated(seed: u64, count: usize) -> Tally {
 #[cfg(test)]
 mod tests {
     use super::*;
+    use oracle_list::text;
 
     #[test]
     fn generated_plans_agree() {
@@ -630,7 +646,24 @@ mod tests {
             "{tally}"
         );
         assert!(counts.taken[0] > 100 && counts.unused > 3, "{tally}");
-        assert!(tally.listed() > 500, "{tally}");
+        assert!(tally.listed().iter().min() > Some(&50), "{tally}");
+        let repeats = tally.repeats();
+        assert!(repeats.lost > 20 && repeats.spared > 2, "{tally}");
+    }
+
+    /// The oracle's list has lost its repeats when it is walked to the next step.
+    #[test]
+    fn a_walked_list_has_no_repeats() {
+        let mut draft = Draft::new(vec![text::bytes("W{-3,3}")]);
+        draft.steps.extend([step(1, 0, 0), step(2, 1, 1)]);
+        let request = draft.request();
+        let wanted = walk(&request.plan, &lay_out(&request, 0));
+        assert_eq!(wanted.reply, (0, 3));
+        let derived = [text::bytes("W{3}"), text::bytes("W{6} node=2")];
+        assert_eq!(wanted.derived, derived);
+        let mut tally = Tally::default();
+        hold(&mut tally, &request, 0, &wanted);
+        assert_eq!((tally.differences, tally.repeats().lost), (0, 1), "{tally}");
     }
 
     #[test]

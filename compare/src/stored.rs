@@ -9,9 +9,57 @@ use crate::tally::Tally;
 use oracle_list::form::{hex, is_comment, POOL, SUBTRACT};
 use oracle_list::random::Random;
 use oracle_list::sheet::TEXT;
+use oracle_list::text;
 use std::fmt::Write;
 
 const ADD: u32 = 2;
+
+/// Plans by name (document 02, S-6): what they show, the leaf, the steps over it as
+/// component and node, which it takes on both sides, and the code.
+const NAMED: [(&str, &str, &[(u32, usize)], u32); 7] = [
+    (
+        "Abs {-3,3} is {3}, and its sum with itself {6}",
+        "W{-3,3}",
+        &[(1, 0), (ADD, 1)],
+        0,
+    ),
+    (
+        "Abs of 64 times -7 and 64 times 7 over 16 columns, and its sum with itself",
+        "W{-7*64,7*64} columns=16",
+        &[(1, 0), (ADD, 1)],
+        0,
+    ),
+    (
+        "Abs of 64 pairs over two columns, and its Negative",
+        "W{+-1..64} columns=2",
+        &[(1, 0), (9, 1)],
+        0,
+    ),
+    (
+        "Abs of 64 pairs over three columns",
+        "W{+-1..64} columns=3",
+        &[(1, 0)],
+        26,
+    ),
+    (
+        "Negative of 64 pairs over two columns, behind their Abs",
+        "W{+-1..64} columns=2",
+        &[(1, 0), (9, 0)],
+        26,
+    ),
+    (
+        "24 behind a full store",
+        "W{1..127,-9223372036854775808} columns=2",
+        &[(1, 0)],
+        24,
+    ),
+    (
+        "29 before repeats are looked at",
+        "W{-3,3}{1} columns=3",
+        &[(1, 0)],
+        29,
+    ),
+];
 
 /// A line that is longer is drawn again, so that the file stays small.
 const LONGEST_LINE: usize = 9000;
@@ -19,7 +67,8 @@ const LONGEST_LINE: usize = 9000;
 const FORM: &str = "\
 # Plan calls with the answers of the original text, walked step by step; a step that the original has not, of component
 # 10, Pool, or over a text that is no UTF-8, or that document 02 gives another answer, of Subtract over two ranges of one
-# kind, is the plain port's. 29, which the original has not, is tested around it.
+# kind, is the plain port's. 29, which the original has not, is tested around it, and what it gives of Abs and Negative
+# loses its repeats before 26 is counted and before a next step reads it.
 # One a line, six fields separated by a blank: plan work_len leaves code value result
 #   plan      the plan's bytes in lower-case hex, - for none
 #   work_len  the length of the work buffer, in bytes
@@ -34,7 +83,7 @@ const FORM: &str = "\
 ";
 
 /// The whole file. Same seed, same bytes.
-pub fn text(seed: u64) -> String {
+pub fn made(seed: u64) -> String {
     let mut random = Random::new(seed);
     let mut out = format!("{FORM}# Made by `compare store-plans --seed {seed}`.\n");
     accepted(&mut random, &mut out);
@@ -66,7 +115,21 @@ pub fn text(seed: u64) -> String {
         }
     }
     unfit(&mut random, &mut out);
+    named(&mut out);
     out
+}
+
+fn named(out: &mut String) {
+    for (name, leaf, steps, code) in NAMED {
+        let mut draft = Draft::new(vec![text::bytes(leaf)]);
+        let step = |&(component, node): &(u32, usize)| plans::step(component, node, node);
+        draft.steps.extend(steps.iter().map(step));
+        let request = draft.request();
+        let answer = plans::walk(&request.plan, &plans::lay_out(&request, FILLER));
+        assert_eq!(answer.reply.0, code, "{name}");
+        let _ = writeln!(out, "# {name}");
+        out.push_str(&line(&request, &answer));
+    }
 }
 
 /// Leaves alone, and every node count with steps.
@@ -120,7 +183,7 @@ fn refused(
 }
 
 /// Accepted with a step of Pool to each nature that it can give, with a step of Add
-/// to texts, with a range Subtract, and over several lists.
+/// to texts, with a range Subtract, over several lists, and with repeats that go.
 fn derived(random: &mut Random, out: &mut String) {
     let natures = [
         (POOL, 0, "Pool to absent"),
@@ -144,6 +207,11 @@ fn derived(random: &mut Random, out: &mut String) {
     accepted_with(random, out, "lists that no step counts", |draft| {
         draft.counts().unused > 0
     });
+    accepted_with(random, out, "Abs that loses repeats", |draft| {
+        draft.repeats().lost > 0
+    });
+    let spared = "lists that 26 would refuse if it counted repeats";
+    accepted_with(random, out, spared, |draft| draft.repeats().spared > 0);
 }
 
 /// Accepted, four that suit.
@@ -307,7 +375,7 @@ fn bytes(text: &str) -> Result<Vec<u8>, String> {
 
 #[cfg(test)]
 mod tests {
-    use super::{replay, text};
+    use super::{made, replay};
 
     const STORED: &str = concat!(env!("CARGO_MANIFEST_DIR"), "/../vectors/plans.txt");
 
@@ -322,7 +390,7 @@ mod tests {
             .and_then(|seed| seed.parse().ok())
             .expect("the seed in the file's comments");
         assert!(
-            text(seed) == stored,
+            made(seed) == stored,
             "vectors/plans.txt is not what its seed makes"
         );
     }
@@ -352,5 +420,7 @@ mod tests {
         let counts = tally.counts();
         assert!(counts.sides.iter().sum::<usize>() >= 12, "{tally}");
         assert!(counts.taken[1].min(counts.unused) >= 4, "{tally}");
+        let repeats = tally.repeats();
+        assert!(repeats.lost >= 12 && repeats.spared >= 6, "{tally}");
     }
 }

@@ -1,9 +1,9 @@
 //! Counts by code, and the first differences.
 
 use crate::judge::has_other_texts;
-use crate::plans::is_unary;
 use oracle_list::counts::Counts;
-use oracle_list::form::{hex, is_range_subtract, POOL};
+use oracle_list::form::{hex, is_range_subtract, is_unary, POOL};
+use oracle_list::repeats::Repeats;
 use oracle_list::sheet::{Ends, Nature, Sheet, AT_COLUMNS, AT_LISTS, AT_NATURE, TEXT};
 use oracle_list::stats::NAMES;
 use std::collections::BTreeMap;
@@ -13,6 +13,9 @@ const SHOWN: usize = 10;
 
 /// The numbers of the natures that Pool can give.
 const POOLED: [u8; 6] = [0, 1, 2, 3, 4, TEXT];
+
+/// The numbers of the kinds of categories that are derived: whole, Bool, text.
+const LISTED: [u8; 3] = [3, 4, TEXT];
 
 /// Calls that read a sheet with texts.
 #[derive(Default)]
@@ -53,8 +56,9 @@ pub struct Tally {
     subtracted: [usize; 2],
     ranges: Ranges,
     counts: Counts,
-    /// Derived sheets that state categories.
-    listed: usize,
+    /// Derived sheets that state categories, as in `LISTED`.
+    listed: [usize; LISTED.len()],
+    repeats: Repeats,
     shown: Vec<String>,
     pub differences: usize,
 }
@@ -159,9 +163,23 @@ impl Tally {
             self.differ(|| format!("{code}, where 29 is out of place: {component} {left} {right}"));
         }
         let nature = sheet.get(AT_NATURE).copied().unwrap_or(0);
-        self.listed += usize::from(nature > 2);
         if nature > 0 && sheet[AT_LISTS] != sheet[AT_COLUMNS] {
             self.differ(|| format!("component {component} derives {}", hex(sheet)));
+        }
+    }
+
+    /// A derived sheet, if it states categories: a list that repeats a value is a
+    /// difference, under every component, since document 02's S-6 left none.
+    pub fn count_repeats(&mut self, component: u32, left: &[u8], sheet: &[u8]) {
+        let Some(nature) = sheet.get(AT_NATURE).filter(|nature| **nature > 2) else {
+            return;
+        };
+        if let Some(place) = LISTED.iter().position(|kind| kind == nature) {
+            self.listed[place] += 1;
+        }
+        self.repeats.count(component, left, sheet);
+        if Sheet::decode(sheet).map_or(true, |sheet| sheet.nature.has_repeats()) {
+            self.differ(|| format!("component {component} derives repeats: {}", hex(sheet)));
         }
     }
 
@@ -210,9 +228,13 @@ impl Tally {
         &self.counts
     }
 
-    /// Derived sheets that state categories.
-    pub fn listed(&self) -> usize {
+    /// Derived sheets that state categories: whole, Bool, text.
+    pub fn listed(&self) -> [usize; LISTED.len()] {
         self.listed
+    }
+
+    pub fn repeats(&self) -> &Repeats {
+        &self.repeats
     }
 }
 
@@ -283,9 +305,14 @@ impl fmt::Display for Tally {
         if self.ranges.of != [0; NAMES.len()] {
             writeln!(f, "{}", self.ranges)?;
         }
-        if self.counts != Counts::default() || self.listed > 0 {
+        if self.counts != Counts::default() || self.listed != [0; LISTED.len()] {
+            let [whole, bools, texts] = self.listed;
             writeln!(f, "{}", self.counts)?;
-            writeln!(f, "derived categories: {}", self.listed)?;
+            writeln!(
+                f,
+                "derived categories: {whole} whole, {bools} Bool and {texts} text lists"
+            )?;
+            writeln!(f, "{}", self.repeats)?;
         }
         write!(
             f,
@@ -327,6 +354,24 @@ mod tests {
         assert!(!passes(one, one, 0, "W{2} columns=3"));
         assert!(!passes("W[1,2]", "W[1,2]", 0, "W[2,4]*2"));
         assert!(passes(two, "W[1,2] columns=3", 0, "absent columns=3"));
+    }
+
+    /// Whatever the component and the kind of the lists; a leaf may repeat.
+    #[test]
+    fn a_repeat_is_a_difference() {
+        let passes = |component, sheet| {
+            let mut tally = Tally::default();
+            let leaf = text::bytes("W{1,1}");
+            tally.count_repeats(component, &leaf, &text::bytes(sheet));
+            tally.differences == 0
+        };
+        for component in [1, 2, 3, 4, 5, 9, 10] {
+            assert!(passes(component, "W{1,-1}{1}{}"));
+            assert!(!passes(component, "W{1}{2,3,2}"));
+            assert!(passes(component, "B{1,0}{1}") && !passes(component, "B{1,0,1}"));
+            assert!(passes(component, "T{a,_}{a}") && !passes(component, "T{a}{_,b,_}"));
+            assert!(passes(component, "W[1,1][1,1]") && passes(component, "empty"));
+        }
     }
 
     #[test]

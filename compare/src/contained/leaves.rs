@@ -118,12 +118,21 @@ impl Kin {
             true => self.odd_count(random, columns),
             false => lists,
         };
+        if lists == 1 && columns > 1 && random.percent(LONG) {
+            return Nature::WholeLists(vec![pairs(random, columns)]);
+        }
         let most = if lists > 3 { 3 } else { 6 };
-        let list = |random: &mut Random| {
-            let count = 1 + random.below(most);
-            (0..count).map(|_| self.number(random)).collect()
-        };
-        Nature::WholeLists((0..lists).map(|_| list(random)).collect())
+        Nature::WholeLists((0..lists).map(|_| self.list(random, most)).collect())
+    }
+
+    /// In one list of five a value's negative stands last.
+    fn list(&self, random: &mut Random, most: usize) -> Vec<i64> {
+        let count = 1 + random.below(most);
+        let mut list: Vec<i64> = (0..count).map(|_| self.number(random)).collect();
+        if random.percent(20) {
+            list.push(random.pick(&list).saturating_neg());
+        }
+        list
     }
 
     /// A count of lists that is neither one nor the columns'; often the plan's own
@@ -160,6 +169,17 @@ impl Kin {
             Zone::Any => random.word() as i64 >> random.below(64),
         }
     }
+}
+
+/// Leaves of one list over several columns in a hundred that are about as long as 26
+/// permits once repeats are gone.
+const LONG: usize = 12;
+
+/// Values and their negatives, which Abs makes about 128 as they would be written.
+fn pairs(random: &mut Random, columns: usize) -> Vec<i64> {
+    let most = (128 / columns + random.below(3)) as i64 - 1;
+    let pairs = (1..=most).flat_map(|value| [value, -value]);
+    pairs.take(128).collect()
 }
 
 /// A number for each column of a leaf. Turn 0 takes the lowers, 1 the uppers, 2

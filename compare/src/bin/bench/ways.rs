@@ -2,9 +2,9 @@
 
 use crate::classes::Class;
 use crate::clock::{on_cpu, spent};
-use comparison::{plans, proved};
+use comparison::proved;
 use in_memory::Prepared;
-use oracle_list::form::Call;
+use oracle_list::form::{is_unary, Call};
 use oracle_list::sheet::{Sheet, LONGEST};
 use std::hint::black_box;
 
@@ -67,7 +67,7 @@ fn timed<R>(class: &Class, mut answer: impl FnMut(&Call) -> R) -> f64 {
 
 fn prepare(call: &Call) -> Option<Prepared> {
     let left = Sheet::decode(&call.left).ok()?;
-    let right = match plans::is_unary(call.component) {
+    let right = match is_unary(call.component) {
         true => None,
         false => Some(Sheet::decode(&call.right).ok()?),
     };
