@@ -48,7 +48,7 @@ const NAMED: [(&str, &str, &[(u32, usize)], u32); 7] = [
         26,
     ),
     (
-        "24 behind a full store",
+        "24 behind too many",
         "W{1..127,-9223372036854775808} columns=2",
         &[(1, 0)],
         24,

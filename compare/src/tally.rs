@@ -277,6 +277,22 @@ impl fmt::Display for Ranges {
     }
 }
 
+impl Tally {
+    /// Lists that were counted, derived and mapped.
+    fn tell_categories(&self, f: &mut fmt::Formatter) -> fmt::Result {
+        if self.counts == Counts::default() && self.listed == [0; LISTED.len()] {
+            return Ok(());
+        }
+        let [whole, bools, texts] = self.listed;
+        writeln!(f, "{}", self.counts)?;
+        writeln!(
+            f,
+            "derived categories: {whole} whole, {bools} Bool and {texts} text lists"
+        )?;
+        writeln!(f, "{}", self.repeats)
+    }
+}
+
 impl fmt::Display for Tally {
     fn fmt(&self, f: &mut fmt::Formatter) -> fmt::Result {
         for text in &self.shown {
@@ -305,15 +321,7 @@ impl fmt::Display for Tally {
         if self.ranges.of != [0; NAMES.len()] {
             writeln!(f, "{}", self.ranges)?;
         }
-        if self.counts != Counts::default() || self.listed != [0; LISTED.len()] {
-            let [whole, bools, texts] = self.listed;
-            writeln!(f, "{}", self.counts)?;
-            writeln!(
-                f,
-                "derived categories: {whole} whole, {bools} Bool and {texts} text lists"
-            )?;
-            writeln!(f, "{}", self.repeats)?;
-        }
+        self.tell_categories(f)?;
         write!(
             f,
             "{} in all, {} differences",

@@ -1,4 +1,4 @@
--- Laws of `has`, `noted` and `firsts`, over any equality. Assumes nothing.
+-- Laws of `has`, `noted` and `firstsFrom`, over any equality. Assumes nothing.
 use mathlib.Core.Path.{_≡_, refl, ap, ap₂, _∙_}
 use mathlib.Core.Bool.{Bool, true, false, cond, _||_}
 use mathlib.Core.List.{List, [], _∷_, _++_}

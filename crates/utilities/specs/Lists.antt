@@ -36,7 +36,7 @@ module _ {X : Type 0} (same : X → X → Bool) where
   unfoldable pub firsts : List X → List X
   firsts xs = firstsFrom [] xs
 
-  -- a list without repeats: no value is the same as one in front of it
+  -- 02, S-6: "lists without repeats": no value is the same as one in front of it
   unfoldable pub distinct : List X → Bool
   distinct [] = true
   distinct (x ∷ xs) = every (λ y. not (same y x)) xs && distinct xs

@@ -134,8 +134,8 @@ mod tests {
     #[test]
     fn alike_entries_are_shown_once() {
         assert_eq!(
-            shown(1, "W{-3,3}", "empty", 0, "W{3,3}*2 columns=2"),
-            "Abs {-3, +3} {+3, +3} x 2 over 2 columns"
+            shown(1, "W{-3,3}", "empty", 0, "W{3}*2 columns=2"),
+            "Abs {-3, +3} {+3} x 2 over 2 columns"
         );
     }
 }

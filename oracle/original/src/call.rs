@@ -288,7 +288,7 @@ mod tests {
     #[test]
     fn mapped_lists_lose_repeats() {
         let mut random = Random::new(8);
-        let (mut kept, mut lost, mut spared) = (0, 0, 0);
+        let (mut kept, mut lost, mut spared, mut full) = (0, 0, 0, 0);
         for turn in 0..20_000 {
             let component = [1, 9, 2, 3, 4, 5][turn % 6];
             let aim = random.pick(&[0, 26]);
@@ -301,10 +301,15 @@ mod tests {
             assert!(!repeats || component == 1, "{:?}", call);
             let before = sheet.nature.categories();
             sheet.nature = sheet.nature.without_repeats();
-            let answer = asked(component, call.node, left, right, LONGEST);
-            let Some(answer) = answer.filter(|answer| answer.code == 0) else {
+            let Some(answer) = asked(component, call.node, left, right, LONGEST) else {
                 continue;
             };
+            let over = sheet.nature.categories() > 128;
+            assert_eq!(answer.code == 26, over, "{} {:?}", answer.code, call);
+            full += usize::from(over && is_unary(component));
+            if answer.code != 0 {
+                continue;
+            }
             assert_eq!(Sheet::decode_unordered(&answer.bytes), Ok(sheet));
             let mark = if repeats { Mark::Added } else { Mark::Rust };
             assert_eq!(answer.mark, mark);
@@ -312,6 +317,11 @@ mod tests {
             lost += usize::from(repeats);
             spared += usize::from(before > 128);
         }
-        assert!(kept > 1000 && lost > 500 && spared > 100);
+        let met = [kept, lost, spared, full];
+        assert!(
+            kept > 1000 && lost > 500 && spared > 100 && full > 100,
+            "{:?}",
+            met
+        );
     }
 }
