@@ -5,14 +5,11 @@ use mathlib.Core.Bool.{Bool, true}
 use mathlib.Core.List.{List, [], _∷_, _++_}
 use Prim.Native.Nat.{ℕ}
 use Rattle.numbers.specs.Result.{Result, ok}
-use Rattle.numbers.proofs.Results.{then-ok-inv}
+use Rattle.numbers.proofs.Results.{ok-same, then-ok-inv}
 use Rattle.utilities.specs.Lists.{every, firsts, distinct, standardized}
 use Rattle.utilities.specs.Columns.{each, eachPair}
 use Rattle.utilities.proofs.Distinct.{firsts-distinct}
 use Rattle.category_lists.specs.Categories.{pairs, product, combined, image, mapped, union, united}
-
-ok-same : {X : Type 0} {a b : X} → _≡_ {A = Result X} (ok a) (ok b) → a ≡ b
-ok-same e = cc
 
 -- ---- what every value of a rule passes, all of its values pass
 

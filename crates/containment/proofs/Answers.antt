@@ -7,9 +7,8 @@ use Rattle.numbers.specs.Result.{Result, ok}
 use Rattle.numbers.specs.Checked.{checkedOf}
 use Rattle.numbers.specs.Kind.{Span, fitting, spanOf}
 use Rattle.numbers.proofs.Laws.{exactly}
-use Rattle.numbers.proofs.Results.{then-ok-inv}
+use Rattle.numbers.proofs.Results.{ok-same, then-ok-inv}
 use Rattle.ends.specs.Ends.{unknown, both, present, fromBoth}
-use Rattle.derived.proofs.Answers.{ok-same}
 use Rattle.containment.specs.Demand.{AtLeast, AtMost, InSpan}
 use Rattle.containment.specs.Within.{Within}
 

@@ -10,12 +10,11 @@ use lib.ListN.{length, getElem?, replicate}
 use borrow.Author.Tests.{not-false}
 use Rattle.numbers.specs.Result.{Result, ok, andThen, check, checked}
 use Rattle.numbers.specs.Kind.{Span}
-use Rattle.numbers.proofs.Results.{then-ok-inv, checked-passed}
+use Rattle.numbers.proofs.Results.{ok-same, then-ok-inv, checked-passed}
 use Rattle.utilities.specs.Lists.{repeated}
 use Rattle.utilities.specs.Columns.{spreads, each, eachPair}
 use Rattle.utilities.proofs.Repeated.{one-or-each, repeated-full, repeated-length}
 use Rattle.ends.specs.Ranges.{rangePair, rangeAlone}
-use Rattle.derived.proofs.Answers.{ok-same}
 use Rattle.derived.proofs.Each.{pair-length}
 use Rattle.containment.specs.Demand.{entryFor, OneOrPerColumn}
 

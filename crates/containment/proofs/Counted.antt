@@ -10,7 +10,7 @@ use mathlib.Core.Option.{Option, Option·getD}
 use Prim.Native.Nat.{ℕ, _<_}
 use lib.ListN.{length}
 use Rattle.numbers.specs.Result.{ok}
-use Rattle.numbers.proofs.Results.{then-ok-inv}
+use Rattle.numbers.proofs.Results.{ok-same, then-ok-inv}
 use Rattle.utilities.specs.Columns.{spreads}
 use Rattle.utilities.proofs.Repeated.{one-or-each}
 use Rattle.base.specs.Form.{Form, narrow}
@@ -26,7 +26,7 @@ use Rattle.orders.specs.Orders.{unaryChecks}
 use Rattle.calls.specs.Natures.{unaryNature}
 use Rattle.calls.specs.Derive.{deriveUnary, derive}
 use Rattle.plan_form.specs.Form.{leafCount, leftOf, rightOf}
-use Rattle.derived.proofs.Answers.{ok-same, checked-rest}
+use Rattle.derived.proofs.Answers.{checked-rest}
 use Rattle.derived.proofs.Derived.{numbered-rest}
 use Rattle.derived.proofs.Counted.{maps-counted, pairs-counted}
 use Rattle.containment.specs.Demand.{OneOrPerColumn, WholeNature, Combines, SpreadsBy, Spreads, Counted, Premises, sheetOf}

@@ -11,7 +11,7 @@ use lib.ListN.{length, length-map, getElem?}
 use Rattle.numbers.specs.Kind.{eqZ}
 use Rattle.numbers.specs.Result.{Result, ok, refused}
 use Rattle.numbers.proofs.Choices.{eqZ-true}
-use Rattle.numbers.proofs.Results.{never, then-ok-inv}
+use Rattle.numbers.proofs.Results.{ok-same, never, then-ok-inv}
 use Rattle.utilities.specs.Lists.{firsts, standardized}
 use Rattle.utilities.specs.Columns.{each, eachPair}
 use Rattle.utilities.proofs.Members.{Equals, firsts-all}
@@ -21,7 +21,7 @@ use Rattle.base.specs.Sheet.{Nature, wholeLists}
 use Rattle.base.specs.declared.Component.{Component}
 use Rattle.base.specs.declared.Component.the-variants as C
 use Rattle.category_lists.specs.Categories.{categoryRule, pairs, product, image, mapped, union, keptTo, textKept, kept, limited}
-use Rattle.derived.proofs.Answers.{ok-same, some-same}
+use Rattle.derived.proofs.Answers.{some-same}
 use Rattle.containment.specs.Exact.{Side, exact}
 use Rattle.containment.specs.Demand.{entryFor, InList, OneOrPerColumn}
 use Rattle.containment.proofs.Spans.{taken-is}

@@ -9,7 +9,7 @@ use Rattle.numbers.specs.Result.{Result, ok, andThen}
 use Rattle.numbers.specs.Kind.{Span, whole, eqZ}
 use Rattle.numbers.proofs.Choices.{eqZ-true}
 use Rattle.numbers.proofs.Parts.{abs-zero}
-use Rattle.numbers.proofs.Results.{never, then-ok-inv}
+use Rattle.numbers.proofs.Results.{ok-same, never, then-ok-inv}
 use Rattle.base.specs.Form.{Form}
 use Rattle.base.specs.Sheet.{Nature, absent, wholeRange, floatRange, wholeLists, boolLists, floatLists, textLists}
 use Rattle.base.specs.declared.Component.{Component}
@@ -18,7 +18,7 @@ use Rattle.ends.specs.Ends.{endRule}
 use Rattle.ends.specs.Ranges.{wholeRule, rangePair, rangeAlone}
 use Rattle.category_lists.specs.Categories.{categoryRule, ruled, product, combined, image, mapped, union, united, limited}
 use Rattle.calls.specs.Natures.{listsUnited, listsPair, listsAlone, wholeRangeWith, listsWith, twoNatures, binaryNature, poolNature, unaryNature}
-use Rattle.derived.proofs.Answers.{ok-same, checked-rest}
+use Rattle.derived.proofs.Answers.{checked-rest}
 use Rattle.containment.specs.Exact.{Side, exact}
 use Rattle.containment.specs.Demand.{entryFor, InList, Keeps, ListOffZero, OneOrPerColumn}
 use Rattle.containment.specs.Asks.{Defined, Asks}

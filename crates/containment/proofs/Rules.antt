@@ -10,12 +10,12 @@ use Rattle.numbers.specs.Result.{Result, ok, refused}
 use Rattle.numbers.specs.Checked.{inRange}
 use Rattle.numbers.specs.Kind.{whole}
 use Rattle.numbers.proofs.Laws.{exactly}
-use Rattle.numbers.proofs.Results.{never}
+use Rattle.numbers.proofs.Results.{ok-same, never}
 use Rattle.base.specs.Form.{intType}
 use Rattle.base.specs.declared.Component.{Component}
 use Rattle.base.specs.declared.Component.the-variants as C
 use Rattle.category_lists.specs.Categories.{remainder, modWhole, powerWhole, categoryRule}
-use Rattle.derived.proofs.Answers.{ok-same, some-same, none-some}
+use Rattle.derived.proofs.Answers.{some-same, none-some}
 use Rattle.containment.specs.Exact.{Side, exact}
 use Rattle.containment.proofs.Spans.{quotient-inv}
 use Rattle.containment.proofs.Entries.{unless-some}

@@ -8,7 +8,7 @@ use lib.IntN.{ℤ}
 use lib.ListN.{length}
 use Rattle.numbers.specs.Kind.{Span}
 use Rattle.numbers.specs.Result.{ok, checked}
-use Rattle.numbers.proofs.Results.{then-ok-inv}
+use Rattle.numbers.proofs.Results.{ok-same, then-ok-inv}
 use Rattle.base.specs.Form.{Form}
 use Rattle.base.specs.Sheet.{Sheet, Nature}
 use Rattle.base.specs.declared.Component.{Component}
@@ -20,7 +20,7 @@ use Rattle.shape.specs.Fields.{pairFields, copyFields, poolFields, pairSheet, c
 use Rattle.calls.specs.Natures.{binaryNature, poolNature, unaryNature}
 use Rattle.category_lists.specs.Categories.{kept}
 use Rattle.calls.specs.Derive.{deriveUnary, derivePair, deriveCopy, derivePool, derive}
-use Rattle.derived.proofs.Answers.{ok-same, some-same, checked-rest}
+use Rattle.derived.proofs.Answers.{some-same, checked-rest}
 use Rattle.containment.specs.Exact.{Side, Results, exact}
 use Rattle.containment.specs.Demand.{ColumnsMatch, Suits, OffZero}
 use Rattle.containment.specs.Asks.{Asks}

@@ -8,9 +8,6 @@ use native.Mathlib.Omega.{arith}
 use Rattle.numbers.specs.Result.{Result, ok, refused, Check, checked}
 use Rattle.numbers.proofs.Results.{checked-passed}
 
-pub ok-same : {X : Type 0} {a b : X} → _≡_ {A = Result X} (ok a) (ok b) → a ≡ b
-ok-same e = cc
-
 pub some-same : {X : Type 0} {a b : X} → _≡_ {A = Option X} (some a) (some b) → a ≡ b
 some-same e = cc
 

@@ -6,12 +6,11 @@ use Prim.Native.Nat.{ℕ, zero, suc, _+_, _≤_, _<_, min}
 use native.Mathlib.Omega.{arith}
 use lib.ListN.{length, replicate, take, drop, length-replicate}
 use Rattle.numbers.specs.Result.{Result, ok}
-use Rattle.numbers.proofs.Results.{then-ok-inv}
+use Rattle.numbers.proofs.Results.{ok-same, then-ok-inv}
 use Rattle.utilities.specs.Lists.{listFrom, every, has, noted, firstsFrom, firsts, repeated}
 use Rattle.utilities.specs.Columns.{each, eachPair}
 use Rattle.utilities.proofs.Built.{both-hold}
 use Rattle.round_trip.specs.WellFormed.{Each}
-use Rattle.derived.proofs.Answers.{ok-same}
 
 module _ {X : Type 0} (P : X → Type 0) where
   pub each-below : (f : ℕ → X) (n i : ℕ) → ((k : ℕ) → i ≤ k → k < i + n → P (f k)) → Each P (listFrom n i f)

@@ -3,11 +3,10 @@ use mathlib.Core.Path.{_≡_, refl, sym, subst}
 use mathlib.Core.Bool.{Bool, true, false, cond}
 use mathlib.Core.List.{List, [], _∷_}
 use Rattle.numbers.specs.Result.{Result, ok, refused, andThen, Check, checked}
-use Rattle.numbers.proofs.Results.{never}
+use Rattle.numbers.proofs.Results.{ok-same, never}
 use Rattle.utilities.specs.Columns.{each, eachPair}
 use Rattle.orders.proofs.Passing.{Passing}
 use Rattle.round_trip.specs.WellFormed.{Each}
-use Rattle.derived.proofs.Answers.{ok-same}
 use Rattle.derived.proofs.Gives.{Gives}
 
 abbrev pub IfOk : {X : Type 0} → (X → Type 0) → Result X → Type 0
