@@ -1,0 +1,37 @@
+-- 02, S-7: "Which rink may see which node".
+use mathlib.Core.Bool.{Bool, cond, _||_}
+use mathlib.Core.List.{List}
+use Prim.Native.Nat.{ℕ, zero, suc, _*_}
+use lib.Bits.{bitOr}
+use lib.Count.{ones}
+use lib.Dec.{eqb, leb, ltb}
+use Rattle.bytes.specs.Le.{leAt}
+use Rattle.plan_form.specs.Form.{leafCount, leftOf, rightOf}
+
+-- "Each leaf comes with a 64-bit set of owning rinks": set k at 8 k
+abbrev pub ownerBytes : ℕ
+ownerBytes = 8
+
+module _ (p owners : List ℕ) where
+  abbrev pub ownerSet : ℕ → ℕ
+  ownerSet k = leAt ownerBytes (ownerBytes * k) owners
+
+  -- "a step's owners are the union of its operands'". Operands are earlier nodes, so that k turns are enough
+  unfoldable pub ownersIn : ℕ → ℕ → ℕ
+  ownersIn zero k = ownerSet k
+  ownersIn (suc n) k = cond (ltb k (leafCount p)) (ownerSet k) (bitOr (ownersIn n (leftOf p k)) (ownersIn n (rightOf p k)))
+
+  abbrev pub ownersOf : ℕ → ℕ
+  ownersOf k = ownersIn k k
+
+-- "the owners all lie in the reader's set": with them the reader's set is no larger
+abbrev pub inside : ℕ → ℕ → Bool
+inside owners reader = eqb (bitOr owners reader) reader
+
+-- 01 (02): "the owners number five or more": the "count of ones in the 64-bit owner set decides"
+abbrev pub fewestShown : ℕ
+fewestShown = 5
+
+-- "The sheet is shown if the owners all lie in the reader's set, or if the owners number five or more"
+unfoldable pub seen : ℕ → ℕ → Bool
+seen owners reader = inside owners reader || leb fewestShown (ones owners)
