@@ -1,28 +1,23 @@
 -- 02, S-7: "Which rink may see which node".
-use mathlib.Core.Bool.{Bool, cond, _||_}
+use mathlib.Core.Bool.{Bool, _||_}
 use mathlib.Core.List.{List}
-use Prim.Native.Nat.{ℕ, zero, suc, _*_}
+use Prim.Native.Nat.{ℕ, _*_}
 use lib.Bits.{bitOr}
 use lib.Count.{ones}
-use lib.Dec.{eqb, leb, ltb}
+use lib.Dec.{eqb, leb}
 use Rattle.bytes.specs.Le.{leAt}
-use Rattle.plan_form.specs.Form.{leafCount, leftOf, rightOf}
+use Rattle.standing.specs.Standing.{byOperands}
 
 -- "Each leaf comes with a 64-bit set of owning rinks": set k at 8 k
 abbrev pub ownerBytes : ℕ
 ownerBytes = 8
 
-module _ (p owners : List ℕ) where
-  abbrev pub ownerSet : ℕ → ℕ
-  ownerSet k = leAt ownerBytes (ownerBytes * k) owners
+abbrev pub ownerSet : List ℕ → ℕ → ℕ
+ownerSet owners k = leAt ownerBytes (ownerBytes * k) owners
 
-  -- "a step's owners are the union of its operands'". Operands are earlier nodes, so that k turns are enough
-  unfoldable pub ownersIn : ℕ → ℕ → ℕ
-  ownersIn zero k = ownerSet k
-  ownersIn (suc n) k = cond (ltb k (leafCount p)) (ownerSet k) (bitOr (ownersIn n (leftOf p k)) (ownersIn n (rightOf p k)))
-
-  abbrev pub ownersOf : ℕ → ℕ
-  ownersOf k = ownersIn k k
+-- "a step's owners are the union of its operands'"
+abbrev pub ownersOf : List ℕ → List ℕ → ℕ → ℕ
+ownersOf p owners = byOperands p (ownerSet owners) (λ k left right. bitOr left right)
 
 -- "the owners all lie in the reader's set": with them the reader's set is no larger
 abbrev pub inside : ℕ → ℕ → Bool

@@ -8,13 +8,18 @@ use Rattle.plan_form.specs.Form.{nodeCount, leafCount, stepCount, leftOf, right
 use Rattle.sets.specs.Sets.{chosen}
 
 module _ (p : List ℕ) where
-  -- node k stands on node j: j is k, or one of k's operands stands on j. Operands are earlier nodes, so that k turns are enough
-  unfoldable pub standsIn : ℕ → ℕ → ℕ → Bool
-  standsIn zero k j = eqb k j
-  standsIn (suc n) k j = cond (ltb k (leafCount p)) (eqb k j) (eqb k j || (standsIn n (leftOf p k) j || standsIn n (rightOf p k) j))
+  -- what node k has: a leaf its own, a step by what its operands have. Operands are earlier nodes, so that k turns are enough
+  module _ {X : Type 0} (leaf : ℕ → X) (step : ℕ → X → X → X) where
+    unfoldable pub turns : ℕ → ℕ → X
+    turns zero k = leaf k
+    turns (suc n) k = cond (ltb k (leafCount p)) (leaf k) (step k (turns n (leftOf p k)) (turns n (rightOf p k)))
 
+    abbrev pub byOperands : ℕ → X
+    byOperands k = turns k k
+
+  -- node k stands on node j: j is k, or one of k's operands stands on j
   abbrev pub stands : ℕ → ℕ → Bool
-  stands k j = standsIn k k j
+  stands k j = byOperands (λ i. eqb i j) (λ i left right. eqb i j || (left || right)) k
 
   -- the nodes that k stands on, itself included, ascending: the least set that holds k and, with a step, its operands (`Least`)
   abbrev pub standsOn : ℕ → List ℕ
