@@ -1,9 +1,10 @@
 -- The plan call as its code goes through it.
 --     given-code, given-bytes                             an answer's parts
 --     steppable                                           a step of a plan that passed 1 and 27
---     walk-more, walk-refused                             the steps from node k on
+--     walk-past, walk-more, walk-refused                  the steps from node k on, of which some are chosen
 -- Assumes nothing.
 use mathlib.Core.Path.{_≡_, refl, sym, ap, _∙_}
+use mathlib.Core.Bool.{Bool, true, false}
 use mathlib.Core.List.{List}
 use Prim.Native.Nat.{ℕ, suc, _+_, _-_, _≤_, _<_}
 use native.Mathlib.Omega.{arith}
@@ -11,6 +12,7 @@ use borrow.Author.Tests.{ne-eqb}
 use Rattle.bytes.specs.declared.Put.{Put}
 use Rattle.bytes.specs.declared.Put.the-variants as U
 use Rattle.utilities.specs.Lists.{listFrom}
+use Rattle.sets.specs.Sets.{chosen}
 use Rattle.base.specs.Form.{narrow}
 use Rattle.calls.specs.Single.{Outcome, outcome, step}
 use Rattle.deliveries.specs.Code.{given}
@@ -43,19 +45,28 @@ steppable {p} {work} k w later within =
     let o = f .earlier k later within in
     record { step = step-of p k (w .formed) later within; few = omega arith; left = o .0; right = o .1; room = omega (arith, w .room) }
 
--- ---- n nodes, from node k on
+-- ---- n nodes, from node k on, of which some are chosen
 
-module _ (p : List ℕ) (n k : ℕ) (work : List ℕ) where
+module _ (test : ℕ → Bool) (p : List ℕ) (n k : ℕ) (work : List ℕ) where
+  abbrev from : ℕ → List ℕ → Outcome
+  from i w = walk narrow p (chosen test (listFrom (n - i) i (λ i. i))) w
+
+  pub walk-past : k < n → test k ≡ false → from k work ≡ from (k + 1) work
+  unfolding chosen listFrom
+  walk-past h t =
+      let one : n - k ≡ suc (n - (k + 1)) = omega arith in
+      rw (one, t)
+
   -- a step's answer, and the buffer behind it
-  module _ (h : k < n) (r : Put) (w : List ℕ) (e : given r w ≡ stepOn narrow p k work) where
-    pub walk-more : putCode r ≡ 0 → walk narrow p (listFrom (n - k) k (λ i. i)) work ≡ walk narrow p (listFrom (n - (k + 1)) (k + 1) (λ i. i)) w
-    unfolding walk listFrom
+  module _ (h : k < n) (t : test k ≡ true) (r : Put) (w : List ℕ) (e : given r w ≡ stepOn narrow p k work) where
+    pub walk-more : putCode r ≡ 0 → from k work ≡ from (k + 1) w
+    unfolding walk chosen listFrom
     walk-more z =
         let one : n - k ≡ suc (n - (k + 1)) = omega arith in
-        rw (one, given-code r w e ∙ z, given-bytes r w e)
+        rw (one, t, given-code r w e ∙ z, given-bytes r w e)
 
-    pub walk-refused : {m : ℕ} → m ≡ putCode r → (m ≡ 0 → ⊥) → walk narrow p (listFrom (n - k) k (λ i. i)) work ≡ outcome m k w
-    unfolding walk listFrom
+    pub walk-refused : {m : ℕ} → m ≡ putCode r → (m ≡ 0 → ⊥) → from k work ≡ outcome m k w
+    unfolding walk chosen listFrom
     walk-refused {m} c some =
         let one : n - k ≡ suc (n - (k + 1)) = omega arith in
-        rw (one, given-code r w e ∙ sym c, given-bytes r w e, ne-eqb m 0 some)
+        rw (one, t, given-code r w e ∙ sym c, given-bytes r w e, ne-eqb m 0 some)

@@ -10,10 +10,11 @@ ghost use Rattle.plan_step.specs.Code.{Rooms, Large};
 ghost use Rattle.plan_leaves.specs.Code.{nodesFrom, walked, Walkable};
 ghost use Rattle.plan.specs.Code.{Reaches};
 
-// The steps from node `from` on. Where the category stores are not lent, it stops before the first step that may use them. After a refusal, earlier steps'
+// Those steps of a set of nodes that come from node `from` on. Where the category stores are not lent, it stops before the first step that may use them. After a refusal, earlier steps'
 // sheets stand and no other byte has changed.
 pub fn take_steps(
     plan: &[u8],
+    nodes: u64,
     from: usize,
     lent: bool,
     work: &mut [u8],
@@ -27,11 +28,15 @@ pub fn take_steps(
 ) -> Walked
     requires { ⌜ Walkable (now plan) (now work) × (leafCount (now plan) ≤ from) × (from ≤ nodeCount (now plan)) ⌝ }
     requires { ⌜ Rooms narrow (now first) (now second) (now scratch) × (lent ≡ true → Large narrow (now us) (now bs) (now store) (now hints) (now first) (now second) (now scratch)) ⌝ }
-    ensures { λ r. ⌜ (walked (now (plan .entry)) r (now (work .exit)) ≡ walk narrow (now (plan .entry)) (nodesFrom (now (plan .entry)) from) (now (work .entry))) × Reaches lent (now (plan .entry)) r ⌝ }
+    ensures { λ r. ⌜ (walked nodes (now (plan .entry)) r (now (work .exit)) ≡ walk narrow (now (plan .entry)) (nodesFrom nodes (now (plan .entry)) from) (now (work .entry))) × Reaches lent (now (plan .entry)) r ⌝ }
 {
-    let nodes = plan_form::node_count(plan);
+    let count = plan_form::node_count(plan);
     let mut k = from;
-    while k < nodes {
+    while k < count {
+        if !sets::has(nodes, k) {
+            k += 1;
+            continue;
+        }
         if !lent {
             if plan_leaves::may_use_stores(plan, k, work) {
                 return Walked::Next(k);
@@ -44,5 +49,5 @@ pub fn take_steps(
         }
         k += 1;
     }
-    Walked::Accepted(nodes)
+    Walked::Accepted(count)
 }

@@ -8,6 +8,7 @@ use Rattle.plan_form.specs.Form.{nodeLimit, leftOf, rightOf, nodeCount, noNode,
 use Rattle.calls.specs.Walk.{slotAt, sheetIn, walk, leafNodes, leavesThen}
 use Rattle.plan_form.specs.Code.{StepOf}
 use Rattle.utilities.specs.Lists.{listFrom}
+use Rattle.sets.specs.Sets.{inSet, chosen}
 use Rattle.calls.specs.Single.{Outcome, outcome}
 use Rattle.plan_leaves.specs.declared.Walked.{Walked}
 use Rattle.plan_leaves.specs.declared.Walked.the-variants as W
@@ -31,15 +32,15 @@ pub record Steppable (p : List ℕ) (k : ℕ) (work : List ℕ) : Type 0 where
   pub right : rightOf p k < k
   pub room : SlotIn work k
 
--- the nodes from k on
-abbrev pub nodesFrom : List ℕ → ℕ → List ℕ
-nodesFrom p k = listFrom (nodeCount p - k) k (λ i. i)
+-- those of a set of nodes that come from k on
+abbrev pub nodesFrom : ℕ → List ℕ → ℕ → List ℕ
+nodesFrom nodes p k = chosen (inSet nodes) (listFrom (nodeCount p - k) k (λ i. i))
 
--- 01: "A plan call gives 0 and its node count, or a refusal and the node"; where a step is next, what the steps from there on come to
-abbrev pub walked : List ℕ → Walked → List ℕ → Outcome
-walked p (W.Accepted n) work = outcome 0 n work
-walked p (W.Refused k node) work = outcome k node work
-walked p (W.Next k) work = walk narrow p (nodesFrom p k) work
+-- 01: "A plan call gives 0 and its node count, or a refusal and the node"; where a step is next, what the set's steps from there on come to
+abbrev pub walked : ℕ → List ℕ → Walked → List ℕ → Outcome
+walked nodes p (W.Accepted n) work = outcome 0 n work
+walked nodes p (W.Refused k node) work = outcome k node work
+walked nodes p (W.Next k) work = walk narrow p (nodesFrom nodes p k) work
 
 -- 1 and 27 have passed
 pub record Walkable (p work : List ℕ) : Type 0 where
@@ -58,8 +59,9 @@ Leaves p (W.Accepted n) = ⊥
 Leaves p (W.Refused k node) = node ≤ noNode
 Leaves p (W.Next k) = k ≡ leafCount p
 
-pub record LeavesSay (p work : List ℕ) (r : Walked) : Type 0 where
-  pub says : (rest : Outcome) → leavesThen narrow (leafNodes narrow p) work rest ≡ unlessStopped r work rest
+-- .. of those in a set of nodes
+pub record LeavesSay (nodes : ℕ) (p work : List ℕ) (r : Walked) : Type 0 where
+  pub says : (rest : Outcome) → leavesThen narrow (chosen (inSet nodes) (leafNodes narrow p)) work rest ≡ unlessStopped r work rest
   pub next : Leaves p r
 
 -- the plan is ready for its steps, of which the first is next, or it has none, or it is refused

@@ -6,6 +6,7 @@ ghost use Rattle.base.specs.Form.{narrow};
 ghost use Rattle.base.specs.Checks.{read};
 ghost use Rattle.base.specs.Code.{codeOf};
 ghost use Rattle.lending.specs.Code.{holdsCategories};
+ghost use Rattle.sets.specs.Sets.{fullSet};
 ghost use Rattle.plan_form.specs.Form.{leftOf};
 ghost use Rattle.calls.specs.Walk.{sheetIn};
 ghost use Rattle.plan_leaves.specs.Code.{SlotIn, EndsAt, Steppable, walked, Walkable, LeavesSay, Begun};
@@ -15,7 +16,7 @@ ghost use Rattle.calls.specs.Walk as Walk;
 pub const SLOT: usize = base::form::NARROW_LONGEST;
 
 // The node of a refusal that no node is at fault for.
-const NO_NODE: usize = 65535;
+pub const NO_NODE: usize = 65535;
 
 // How far a plan was walked: to its end, with the node count; to a refusal and its node; or to the step that is next.
 pub enum Walked {
@@ -58,17 +59,19 @@ pub fn may_use_stores(plan: &[u8], k: usize, work: &[u8]) -> bool
     lending::holds_categories(Form::Narrow, &work[start..end])
 }
 
-// All leaves pass 3 to 5 before any step.
-fn check_leaves(plan: &[u8], work: &[u8]) -> Walked
+// All leaves of a set of nodes pass 3 to 5 before any step.
+pub fn check_leaves(plan: &[u8], nodes: u64, work: &[u8]) -> Walked
     requires { ⌜ Walkable (now plan) (now work) ⌝ }
-    ensures { λ r. ⌜ LeavesSay (now (plan .entry)) (now (work .entry)) r ⌝ }
+    ensures { λ r. ⌜ LeavesSay nodes (now (plan .entry)) (now (work .entry)) r ⌝ }
 {
     let leaves = plan_form::leaf_count(plan);
     let mut k = 0;
     while k < leaves {
-        let code = check_leaf(work, k);
-        if code != 0 {
-            return Walked::Refused(code, k);
+        if sets::has(nodes, k) {
+            let code = check_leaf(work, k);
+            if code != 0 {
+                return Walked::Refused(code, k);
+            }
         }
         k += 1;
     }
@@ -77,7 +80,7 @@ fn check_leaves(plan: &[u8], work: &[u8]) -> Walked
 
 // 1, 27 of the work buffer, and the leaves: the first step is next, or there is none, or the plan is refused.
 pub fn begin(plan: &[u8], work: &[u8]) -> Walked
-    ensures { λ r. ⌜ (walked (now (plan .entry)) r (now (work .entry)) ≡ Walk.plan narrow (now (plan .entry)) (now (work .entry))) × Begun (now (plan .entry)) (now (work .entry)) r ⌝ }
+    ensures { λ r. ⌜ (walked fullSet (now (plan .entry)) r (now (work .entry)) ≡ Walk.plan narrow (now (plan .entry)) (now (work .entry))) × Begun (now (plan .entry)) (now (work .entry)) r ⌝ }
 {
     if plan_form::plan_fails(plan) {
         return Walked::Refused(refusals::MALFORMED, NO_NODE);
@@ -85,7 +88,7 @@ pub fn begin(plan: &[u8], work: &[u8]) -> Walked
     if work.len() < plan_form::node_count(plan) * SLOT {
         return Walked::Refused(refusals::NO_ROOM, NO_NODE);
     }
-    let leaves = check_leaves(plan, work);
+    let leaves = check_leaves(plan, sets::FULL, work);
     let Walked::Next(k) = leaves else {
         return leaves;
     };

@@ -36,7 +36,7 @@ pub fn deliver_reply(put: Put, scratch: &[u8], out: &mut [u8]) -> u64
 // The reply of a plan that was walked to its end or to a refusal.
 pub fn walked_reply(answer: Walked) -> u64
     requires { ⌜ Ended answer ⌝ }
-    ensures { λ r. ⌜ ((p work : List ℕ) → replied r work ≡ walked p answer work) ⌝ }
+    ensures { λ r. ⌜ ((nodes : ℕ) (p work : List ℕ) → replied r work ≡ walked nodes p answer work) ⌝ }
 {
     match answer {
         Walked::Accepted(nodes) => reply(0, nodes),

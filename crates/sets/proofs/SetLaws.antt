@@ -4,6 +4,7 @@
 --     in-full       every number below 64 is in the full set
 --     chosen-same   lists chosen by tests that agree
 --     chosen-all    a test that every number of the list passes
+--     chosen-full   the full set has all of them
 -- Assumes nothing.
 use mathlib.Core.Path.{_≡_, refl, sym, ap, ap₂, _∙_}
 use mathlib.Core.Bool.{Bool, true, false, cond, _||_}
@@ -84,3 +85,6 @@ pub chosen-all : (test : ℕ → Bool) (n i : ℕ) → ((k : ℕ) → i ≤ k �
 unfolding chosen listFrom
 chosen-all test zero i h = refl
 chosen-all test (suc n) i h = rw (h i (omega arith) (omega arith), chosen-all test n (i + 1) (λ k a b. h k (omega arith) (omega arith)))
+
+pub chosen-full : (n i : ℕ) → i + n ≤ 64 → chosen (inSet fullSet) (listFrom n i (λ k. k)) ≡ listFrom n i (λ k. k)
+chosen-full n i h = chosen-all (inSet fullSet) n i (λ k a b. in-full k (omega arith))

@@ -6,6 +6,7 @@ use Prim.Native.Nat.{ℕ}
 use native.Mathlib.Omega.{arith}
 use denote.Ref.{now}
 use borrow.Author.Needs.{needs}
+use Rattle.sets.specs.Sets.{fullSet}
 use Rattle.plan_form.specs.Form.{planFails}
 use Rattle.plan_leaves.specs.Code.{Walkable, LeavesSay}
 use Rattle.plan_leaves.specs.declared.Walked.{Walked}
@@ -62,8 +63,8 @@ module _ (c : tie.After-leaves) where
   abbrev next : Walked
   next = W.Next (c .leaves .given .0 .0)
 
-  says : LeavesSay p work next
-  says = subst (LeavesSay p work) (c .leaves .given .1) (c .before .before .check-leaves .ensures)
+  says : LeavesSay fullSet p work next
+  says = subst (LeavesSay fullSet p work) (c .leaves .given .1) (c .before .before .check-leaves .ensures)
 
 returns-3 : tie.Need-returns-3
 returns-3 c =

@@ -19,14 +19,14 @@ reply-requires-2 c κs =
     omega arith
 
 returns : tie.Need-returns
-returns c p work =
+returns c nodes p work =
     let told = c .before .before .answer .given in
-    reply-is 0 (told .0 .0) work (omega arith) (c .reply .ensures) ∙ sym (ap (λ (w : Walked). walked p w work) (told .1))
+    reply-is 0 (told .0 .0) work (omega arith) (c .reply .ensures) ∙ sym (ap (λ (w : Walked). walked nodes p w work) (told .1))
 
 returns-2 : tie.Need-returns-2
-returns-2 c p work =
+returns-2 c nodes p work =
     let told = c .before .before .answer2 .given in
-    reply-is (told .0 .0) (told .0 .1 .0) work (search needs) (c .reply2 .ensures) ∙ sym (ap (λ (w : Walked). walked p w work) (told .1))
+    reply-is (told .0 .0) (told .0 .1 .0) work (search needs) (c .reply2 .ensures) ∙ sym (ap (λ (w : Walked). walked nodes p w work) (told .1))
 
 returns-3 : tie.Need-returns-3
 returns-3 c = absurd (rw (c .before .answer3 .given .1) at (c .before .before .before .pre))
