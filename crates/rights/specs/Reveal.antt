@@ -38,15 +38,14 @@ module _ (F : Form) where
       let s = showing (sheetIn F wanted (o .bytes)) out in
       cond (eqb (o .code) 0) (revealed (s .code) (s .value) (o .bytes) (s .bytes)) (revealed (o .code) (o .value) (o .bytes) out)
 
-  module _ (p owners : List ℕ) (reader wanted : ℕ) where
-    -- "Only the wanted node and all it stands on are walked": the leaves of these pass 3 to 5 in order, then the steps are taken
-    abbrev pub walkedTo : List ℕ → Outcome
-    walkedTo work = leavesThen F (walkedLeaves p wanted) work (walk F p (walkedSteps p wanted) work)
+  -- "Only the wanted node and all it stands on are walked": the leaves of these pass 3 to 5 in order, then the steps are taken
+  abbrev pub walkedTo : List ℕ → ℕ → List ℕ → Outcome
+  walkedTo p wanted work = leavesThen F (walkedLeaves p wanted) work (walk F p (walkedSteps p wanted) work)
 
-    -- "30, the reader may not see the node, after 1 and 27's work buffer test and before any sheet is read"; "30 names the wanted node"
-    unfoldable pub reveal : List ℕ → List ℕ → Revealed
-    reveal work out =
-        cond (callFails p owners wanted) (revealed 1 noNode work out)
-        (cond (ltb (length work) (slotAt F (nodeCount p))) (revealed 27 noNode work out)
-        (cond (seen (ownersOf p owners wanted) reader) (shownOf wanted (walkedTo work) out)
-        (revealed 30 wanted work out)))
+  -- 1, then 27, then "30, the reader may not see the node, after 1 and 27's work buffer test and before any sheet is read"; "30 names the wanted node"
+  unfoldable pub reveal : List ℕ → List ℕ → ℕ → ℕ → List ℕ → List ℕ → Revealed
+  reveal p owners reader wanted work out =
+      cond (callFails p owners wanted) (revealed 1 noNode work out)
+      (cond (ltb (length work) (slotAt F (nodeCount p))) (revealed 27 noNode work out)
+      (cond (seen (ownersOf p owners wanted) reader) (shownOf wanted (walkedTo p wanted work) out)
+      (revealed 30 wanted work out)))

@@ -1,21 +1,23 @@
 -- `standing::gather` meets its contract. The loop's invariant: the sets before k are gathered, the others as they were. Assumes nothing.
-use mathlib.Core.Path.{sym, ap₂, subst}
+use mathlib.Core.Path.{sym, ap₂, subst, _∙_}
 use mathlib.Core.List.{List}
-use Prim.Native.Nat.{ℕ, _+_, _-_, _<_}
+use Prim.Native.Nat.{ℕ, _+_, _-_, _≤_, _<_}
 use native.Mathlib.Omega.{arith}
 use lib.Bits.{bitOr}
-use lib.ListN.{length, getD, set}
+use lib.ListN.{length, getD}
 use denote.Ref.{now}
 use borrow.Author.Needs.{needs}
-use Rattle.plan_form.specs.Form.{nodeLimit, nodeCount}
+use Rattle.plan_form.specs.Form.{nodeLimit, nodeCount, leafCount}
 use Rattle.plan_form.specs.Code.{StepOf}
 use Rattle.plan_form.proofs.FormLaws.{planned, step-of}
-use Rattle.standing.proofs.Gathering.{Gathering, gathering-begun, gathering-more}
+use Rattle.standing.specs.Code.{gathered}
+use Rattle.standing.proofs.Filled.{Filled, filled-more}
+use Rattle.standing.proofs.Gathering.{gathering-begun, joined-is}
 use Rattle.standing.proofs.gather.Statement.{statement}
 use Rattle.standing.proofs.gather.Tie as tie
 
 abbrev Inv-loop : tie.InvT-loop
-Inv-loop plan wanted sets₀ k₀ sets k = Gathering plan sets₀ sets k
+Inv-loop plan wanted sets₀ k₀ sets k = (leafCount plan ≤ k) × Filled (gathered plan (λ i. getD sets₀ i 0)) sets₀ sets k
 
 abbrev μ-loop : tie.MeasureT-loop
 μ-loop plan wanted sets₀ k₀ sets k = wanted + 1 - k
@@ -24,7 +26,10 @@ leaf-count-requires : tie.Need-leaf-count-requires Inv-loop μ-loop
 leaf-count-requires c κs = let start = c .before .before in planned (now (start .args .plan)) (start .pre .0 .formed) .sizes
 
 loop-holds : tie.Need-loop-holds Inv-loop μ-loop
-loop-holds c = let a = c .before .before .before .args in gathering-begun (now (a .plan)) (now (a .sets)) _ (c .leaf-count .ensures)
+loop-holds c =
+    let a = c .before .before .before .args in
+    let e = c .leaf-count .ensures in
+    (omega arith, gathering-begun (now (a .plan)) (now (a .sets)) _ e)
 
 module _ (c : tie.In-loop Inv-loop μ-loop) where
   abbrev start : tie.Start Inv-loop μ-loop
@@ -43,13 +48,13 @@ module _ (c : tie.In-loop Inv-loop μ-loop) where
   small = let f = planned plan (start .pre .0 .formed) .nodes in let h = few in omega arith
 
   turn : StepOf plan k
-  turn = step-of plan k (start .pre .0 .formed) (c .before .loop .inv .later) few
+  turn = step-of plan k (start .pre .0 .formed) (c .before .loop .inv .0) few
 
   within : k < length (c .before .loop .sets)
   within =
       let h = small in
       let room = start .pre .1 in
-      let size = c .before .loop .inv .size in
+      let size = c .before .loop .inv .1 .size in
       omega arith
 
 left-operand-requires : tie.Need-left-operand-requires Inv-loop μ-loop
@@ -71,7 +76,7 @@ module _ (c : tie.After-right-operand Inv-loop μ-loop) where
 
   earlier : (left < k turning) × (right < k turning)
   earlier =
-      let o = planned (plan turning) (start turning .pre .0 .formed) .earlier (k turning) (turning .before .loop .inv .later) (few turning) in
+      let o = planned (plan turning) (start turning .pre .0 .formed) .earlier (k turning) (turning .before .loop .inv .0) (few turning) in
       (subst (λ (n : ℕ). n < k turning) (sym (c .before .left-operand .ensures)) (o .0), subst (λ (n : ℕ). n < k turning) (sym (c .right-operand .ensures)) (o .1))
 
 mul-sets : tie.Need-mul-sets Inv-loop μ-loop
@@ -131,7 +136,7 @@ slice-read-result : tie.Need-slice-read-result Inv-loop μ-loop
 slice-read-result c =
     let h = wanted-small (c .before) in
     let room = first (c .before) .pre .1 in
-    let size = c .before .before .loop .inv .size in
+    let size = c .before .before .loop .inv .1 .size in
     omega arith
 
 loop-again : tie.Need-loop-again Inv-loop μ-loop
@@ -139,12 +144,12 @@ loop-again c =
     let call = c .before .before .before in
     let t = call .before .before in
     let l = t .before .loop in
-    let joined = ap₂ (λ (i j : ℕ). bitOr (getD (l .sets) (l .k) 0) (bitOr (getD (l .sets) i 0) (getD (l .sets) j 0))) (call .before .left-operand .ensures) (call .right-operand .ensures) in
-    subst (λ (n : ℕ). Gathering (plan t) (now (start t .args .sets)) (set (l .sets) (l .k) n) (l .k + 1)) (sym joined)
-    (gathering-more (plan t) (now (start t .args .sets)) (start t .pre .0 .formed) (few t) (within t) (l .inv))
+    let operands = ap₂ (λ (i j : ℕ). bitOr (getD (l .sets) (l .k) 0) (bitOr (getD (l .sets) i 0) (getD (l .sets) j 0))) (call .before .left-operand .ensures) (call .right-operand .ensures) in
+    let joined = joined-is (plan t) (now (start t .args .sets)) (start t .pre .0 .formed) (l .inv .0) (few t) (l .inv .1) in
+    (omega arith, filled-more (within t) (operands ∙ joined) (l .inv .1))
 
 returns : tie.Need-returns Inv-loop μ-loop
-returns c = let l = c .before .before .loop in l .inv .done _ (omega (arith, c .before .loop-test .left))
+returns c = let l = c .before .before .loop in l .inv .1 .done _ (omega (arith, c .before .loop-test .left))
 
 pub gather-spec : {M : Type 1} → statement M
 gather-spec =
