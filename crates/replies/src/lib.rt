@@ -1,4 +1,5 @@
-// The reply of a call: a code and a value, of a step that is delivered and of a plan that was walked.
+// The reply of a call: a code and a value, of a step that is delivered, of a plan that was walked and of a node that is shown.
+use base::refusals;
 use bytes::Put;
 use plan_leaves::Walked;
 ghost use mathlib.Core.Path.{_≡_};
@@ -7,7 +8,10 @@ ghost use Prim.Native.Nat.{ℕ, _^_, _<_};
 ghost use Rattle.calls.specs.Single.{packed, delivery};
 ghost use Rattle.deliveries.specs.Code.{stepIn, Held};
 ghost use lib.ListN.{length};
-ghost use Rattle.plan_leaves.specs.Code.{walked, Ended};
+ghost use Rattle.base.specs.Form.{narrow};
+ghost use Rattle.calls.specs.Walk.{sheetIn};
+ghost use Rattle.plan_leaves.specs.Code.{SlotIn, walked, Ended};
+ghost use Rattle.rights.specs.Reveal.{showing};
 ghost use Rattle.replies.specs.Reply.{replied};
 
 // What the value of a reply is multiplied by.
@@ -43,4 +47,18 @@ pub fn walked_reply(answer: Walked) -> u64
         Walked::Refused(k, node) => reply(k, node),
         Walked::Next(k) => 0,
     }
+}
+
+// Delivers node k's sheet from the work buffer, and replies. A short output stays unwritten.
+pub fn show_reply(work: &[u8], k: usize, out: &mut [u8]) -> u64
+    requires { ⌜ SlotIn (now work) k ⌝ }
+    ensures { λ r. ⌜ replied r (now (out .exit)) ≡ showing (sheetIn narrow k (now (work .entry))) (now (out .entry)) ⌝ }
+{
+    let start = k * plan_leaves::SLOT;
+    let end = plan_leaves::sheet_end(work, k);
+    let n = end - start;
+    if bytes::deliver(out, &work[start..end], n) {
+        return reply(0, n);
+    }
+    reply(refusals::NO_ROOM, plan_leaves::NO_NODE)
 }

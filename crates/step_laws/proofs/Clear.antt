@@ -1,5 +1,6 @@
--- Results that are no refusal with 25, rule by rule: every rule but that of categories under Int Power. Assumes nothing.
-use mathlib.Core.Path.{_≡_, refl}
+-- The numbers that a step may refuse with, rule by rule: below 30, and not 25 (`given`). Every rule but that of categories under Int Power keeps to them.
+-- Assumes nothing.
+use mathlib.Core.Path.{_≡_, refl, subst}
 use mathlib.Core.Bool.{Bool, true, false, cond, not, _&&_, _||_}
 use mathlib.Core.List.{List, [], _∷_}
 use mathlib.Core.Option.{Option, none, some}
@@ -7,7 +8,6 @@ use Prim.Native.Nat.{ℕ}
 use lib.IntN.{ℤ, pos, natAbs, negℤ, _+ℤ_, _-ℤ_, _*ℤ_}
 use lib.Dec.{eqb, ltb}
 use lib.ListN.{length}
-use borrow.Author.Tests.{not-true}
 use Rattle.numbers.specs.Result.{Result, ok, refused, andThen, Check, check, checked}
 use Rattle.numbers.specs.Checked.{checkedOf, quotientOf}
 use Rattle.numbers.specs.Kind.{Kind, Span, whole, float, fitting}
@@ -29,10 +29,20 @@ use Rattle.shape.specs.Shape.{rowsSum}
 use Rattle.orders.specs.Parts.{isIntCopy}
 use Rattle.orders.proofs.Passing.{Passing}
 
--- a value, or a refusal with another number
+-- a number that a step gives: 25 is none, and neither are 30 and what is above it
+abbrev pub given : ℕ → Bool
+given k = ltb k 30 && not (eqb k 25)
+
+-- a value, or a refusal with such a number
 pub data Clear {X : Type 0} : Result X → Type 0 where
   value : {x : X} → Clear (ok x)
-  other : {k : ℕ} → eqb k 25 ≡ false → Clear (refused k)
+  other : {k : ℕ} → given k ≡ true → Clear (refused k)
+
+pub clear-refused : {X : Type 0} {g : Result X} (k : ℕ) → Clear g → g ≡ refused k → given k ≡ true
+clear-refused {X} {g} k c e = go (subst Clear e c)
+  where
+    go : Clear {X = X} (refused k) → given k ≡ true
+    go (other h) = h
 
 pub then-clear : {X Y : Type 0} {g : Result X} (rest : X → Result Y) → Clear g → ((x : X) → Clear (rest x)) → Clear (andThen g rest)
 then-clear rest value f = f _
@@ -42,19 +52,19 @@ pub cond-clear : {X : Type 0} (t : Bool) {g h : Result X} → Clear g → Clear 
 cond-clear true p q = p
 cond-clear false p q = q
 
--- no check of a list has the number 25
+-- the checks of a list have such numbers
 abbrev pub others : List Check → Bool
-others cs = every (λ c. not (eqb (c .number) 25)) cs
+others cs = every (λ c. given (c .number)) cs
 
 -- what follows the checks is reached only where none fails
 pub checked-clear : {X : Type 0} {rest : Result X} (cs : List Check) → others cs ≡ true → (Passing cs → Clear rest) → Clear (checked cs rest)
 unfolding checked every
 checked-clear [] h f = f tt
 checked-clear {rest} (c ∷ cs) h f =
-    let b = both-hold (not (eqb (c .number) 25)) (others cs) h in
-    go (c .fails) refl (not-true (eqb (c .number) 25) (b .0)) (λ e. checked-clear cs (b .1) (λ p. f (e, p)))
+    let b = both-hold (given (c .number)) (others cs) h in
+    go (c .fails) refl (b .0) (λ e. checked-clear cs (b .1) (λ p. f (e, p)))
   where
-    go : (t : Bool) → c .fails ≡ t → eqb (c .number) 25 ≡ false → (c .fails ≡ false → Clear (checked cs rest))
+    go : (t : Bool) → c .fails ≡ t → given (c .number) ≡ true → (c .fails ≡ false → Clear (checked cs rest))
         → Clear (cond t (refused (c .number)) (checked cs rest))
     go true e n next = other n
     go false e n next = next e
@@ -260,12 +270,12 @@ kept-clear F k = then-clear _ (kept-to-clear (F .categoryLimit) k) (text-kept-cl
 pub limited-clear : (limit : ℕ) {g : Result (List (List ℤ))} → Clear g → Clear (limited limit g)
 limited-clear limit p = then-clear _ p (λ ls. kept-to-clear limit (wholeLists ls))
 
--- a component has no rule, or one that never refuses with 25
+-- a component has no rule, or one that refuses with such numbers alone
 pub data ClearRule {E : Type 0} : Option (E → E → Result E) → Type 0 where
   no-rule : ClearRule none
   by-rule : {rule : E → E → Result E} → ((a b : E) → Clear (rule a b)) → ClearRule (some rule)
 
--- Int Power's rule is the one that may
+-- Int Power's rule is the one that may give 25
 pub category-clear : (c : Component) (type : ℕ) → isIntCopy (familyOf c) type ≡ false → ClearRule (categoryRule c type)
 unfolding categoryRule
 category-clear C.Abs type e = by-rule (λ a b. fitting-clear (checkedOf (pos (natAbs a))))

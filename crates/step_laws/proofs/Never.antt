@@ -1,7 +1,11 @@
--- The single call never refuses with 25, in any stored form (`never-25`): 15 keeps categories from Int Power, whose rule alone gives 25.
+-- The numbers that the single call replies with, in any stored form.
+--     single-given    they are below 30, and not 25
+--     read-given      so are those that a sheet is refused with
+--     never-25        25 is none: 15 keeps categories from Int Power, whose rule alone gives it
+--     never-30        30 is none: it is a node's (02, S-7), not a step's
 -- Assumes nothing.
 use mathlib.Core.Path.{_≡_, refl, sym, ap, subst, _∙_}
-use mathlib.Core.Bool.{Bool, true, false, cond, not, _&&_}
+use mathlib.Core.Bool.{Bool, true, false, cond, _&&_}
 use mathlib.Core.List.{List, [], _∷_, _++_}
 use mathlib.Core.Option.{Option, none, some}
 use mathlib.Core.Logic.{⊎-elim}
@@ -10,7 +14,6 @@ use lib.IntN.{ℤ}
 use lib.Ieee.{Float}
 use lib.ListN.{length}
 use lib.Dec.{T, eqb, leb}
-use borrow.Author.Tests.{eq-eqb}
 use Rattle.numbers.specs.Result.{Result, ok, refused, Check, check}
 use Rattle.numbers.specs.Kind.{Span, whole, float, eqZ}
 use Rattle.utilities.specs.Lists.{every}
@@ -35,7 +38,7 @@ use Rattle.orders.proofs.Passing.{Passing, pass-parts, bounds-int}
 use Rattle.calls.specs.Natures.{ruleFor, wholeListsOf, boolListsOf, textListsOf, listChecks, bothListChecks, unitedNature, listsUnited, combinedNature, listsPair, listsAlone, wholeRangeWith, floatRangeWith, listsWith, twoNatures, binaryNature, poolNature, unaryNature}
 use Rattle.calls.specs.Derive.{deriveUnary, derivePair, deriveCopy, derivePool, deriveBy, derive}
 use Rattle.calls.specs.Single.{Outcome, stepSheet, step, delivery, singleOf, single}
-use Rattle.step_laws.proofs.Clear.{Clear, value, other, then-clear, cond-clear, others, checked-clear, whole-clear, float-clear, rows-clear, rule-clear, whole-rule-clear, range-pair-clear, range-alone-clear, combined-clear, mapped-clear, united-clear, kept-clear, limited-clear, ClearRule, no-rule, by-rule, category-clear, text-rule-clear}
+use Rattle.step_laws.proofs.Clear.{given, Clear, value, other, then-clear, cond-clear, others, checked-clear, whole-clear, float-clear, rows-clear, rule-clear, whole-rule-clear, range-pair-clear, range-alone-clear, combined-clear, mapped-clear, united-clear, kept-clear, limited-clear, ClearRule, no-rule, by-rule, category-clear, text-rule-clear}
 
 -- ---- natures
 
@@ -163,7 +166,7 @@ module _ (limit : ℕ) (c : Component) (type columns : ℕ) where
 others-then : (bs : List Check) (t : Bool) → others bs ≡ true → others (bs ++ (check 11 t ∷ [])) ≡ true
 unfolding every
 others-then [] t e = refl
-others-then (b ∷ bs) t e = go (not (eqb (b .number) 25)) e (others-then bs t)
+others-then (b ∷ bs) t e = go (given (b .number)) e (others-then bs t)
   where
     go : (p : Bool) → cond p (others bs) false ≡ true → (others bs ≡ true → others (bs ++ (check 11 t ∷ [])) ≡ true)
         → cond p (others (bs ++ (check 11 t ∷ []))) false ≡ true
@@ -216,7 +219,7 @@ module _ (F : Form) (c : Component) where
   derive-copy-clear l r =
       let bounds = boundChecks c l r in
       let absent = columnsAbsent (l .fields) in
-      checked-clear (copyChecks c l r) (others-then bounds absent (bounds-every l r (λ k. not (eqb k 25)) refl refl refl c))
+      checked-clear (copyChecks c l r) (others-then bounds absent (bounds-every l r given refl refl refl c))
       (λ p.
       then-clear _
       (binary-clear F c (l .fields .dataType) (columnsOf (l .fields)) (l .nature) (r .nature)
@@ -243,34 +246,39 @@ module _ (F : Form) (c : Component) where
 
 -- ---- the single call
 
-read-clear : (F : Form) (s : List ℕ) → Clear (read F s)
+pub read-given : (F : Form) (s : List ℕ) → Clear (read F s)
 unfolding read every
-read-clear F s = checked-clear (sheetChecks F s) refl (λ p. value)
+read-given F s = checked-clear (sheetChecks F s) refl (λ p. value)
 
 step-clear : (F : Form) (c : Component) (node : ℕ) (left right : List ℕ) → Clear (step F c node left right)
 unfolding step stepSheet
 step-clear F c node left right =
     then-clear _
-    (then-clear _ (read-clear F left)
-    (λ l. cond-clear (isUnary (familyOf c)) (derive-clear F c l l) (then-clear _ (read-clear F right) (λ r. derive-clear F c l r))))
+    (then-clear _ (read-given F left)
+    (λ l. cond-clear (isUnary (familyOf c)) (derive-clear F c l l) (then-clear _ (read-given F right) (λ r. derive-clear F c l r))))
     (λ s. value)
 
-chosen-code : (t : Bool) (a b : Outcome) → eqb (a .code) 25 ≡ false → eqb (b .code) 25 ≡ false → eqb (cond t a b .code) 25 ≡ false
+chosen-code : (t : Bool) (a b : Outcome) → given (a .code) ≡ true → given (b .code) ≡ true → given (cond t a b .code) ≡ true
 chosen-code true a b p q = p
 chosen-code false a b p q = q
 
-delivery-code : (g : Result (List ℕ)) (out : List ℕ) → Clear g → eqb (delivery g out .code) 25 ≡ false
+delivery-code : (g : Result (List ℕ)) (out : List ℕ) → Clear g → given (delivery g out .code) ≡ true
 unfolding delivery
 delivery-code (ok vs) out value = chosen-code (leb (length vs) (length out)) _ _ refl refl
 delivery-code (refused k) out (other h) = h
 
-single-code : (F : Form) (number : Numbered) (node : ℕ) (left right out : List ℕ) → eqb (singleOf F number node left right out .code) 25 ≡ false
+-- a code of the single call, 0 among them
+pub single-given : (F : Form) (number : Numbered) (node : ℕ) (left right out : List ℕ) → given (singleOf F number node left right out .code) ≡ true
 unfolding singleOf
-single-code F N.Unlisted node left right out = refl
-single-code F (N.Is c) node left right out = delivery-code (step F c node left right) out (step-clear F c node left right)
+single-given F N.Unlisted node left right out = refl
+single-given F (N.Is c) node left right out = delivery-code (step F c node left right) out (step-clear F c node left right)
 
 -- 25: no component, operands and output give it
 pub never-25 : (F : Form) (number node : ℕ) (left right out : List ℕ) → single F number node left right out .code ≡ 25 → ⊥
 unfolding single
-never-25 F number node left right out e =
-    subst T (sym (eq-eqb (single F number node left right out .code) 25 e) ∙ single-code F (componentOf number) node left right out) tt
+never-25 F number node left right out e = subst T (sym (single-given F (componentOf number) node left right out) ∙ ap given e) tt
+
+-- 30: nor this
+pub never-30 : (F : Form) (number node : ℕ) (left right out : List ℕ) → single F number node left right out .code ≡ 30 → ⊥
+unfolding single
+never-30 F number node left right out e = subst T (sym (single-given F (componentOf number) node left right out) ∙ ap given e) tt
