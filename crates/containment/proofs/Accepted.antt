@@ -1,5 +1,7 @@
 -- The plan call that gives 0: every leaf passed 3 to 5 and stands as it was, and every step's slot holds the sheet derived of its operands' sheets, all as
 -- the buffer has them at the end.
+--     leaves-made                leaves that all passed
+--     sheet-bytes                a slot's sheet is bytes, where the buffer is
 --     plan-made                  what an accepted call leaves in the buffer
 --     sheet-leaf, sheet-after    the sheets there, as demand 3 reads them
 -- Assumes nothing.
@@ -52,7 +54,7 @@ from-first P i j h p q = go (eqb i j) refl
     go true e = subst P (eqb-true i j e) p
     go false e = let n = eqb-false i j e in q (omega arith)
 
-leaves-made : (work : List ℕ) (rest : Outcome) (n i : ℕ) → leavesThen narrow (listFrom n i (λ k. k)) work rest .code ≡ 0
+pub leaves-made : (work : List ℕ) (rest : Outcome) (n i : ℕ) → leavesThen narrow (listFrom n i (λ k. k)) work rest .code ≡ 0
     → Leaves n i work rest (leavesThen narrow (listFrom n i (λ k. k)) work rest)
 unfolding leavesThen listFrom
 leaves-made work rest zero i e = record { same = refl; passed = λ j a b. absurd (omega arith) }
@@ -161,7 +163,7 @@ part-bytes s h n i = go (ltb i n) refl
 rest-bytes : (s : List ℕ) → AllBytes s → (n : ℕ) → AllBytes (drop n s)
 rest-bytes s h n i = rw getD-drop (h (n + i))
 
-sheet-bytes : (k : ℕ) (work : List ℕ) → AllBytes work → AllBytes (sheetIn narrow k work)
+pub sheet-bytes : (k : ℕ) (work : List ℕ) → AllBytes work → AllBytes (sheetIn narrow k work)
 unfolding sheetIn
 sheet-bytes k work h =
     let s = slot narrow k work in

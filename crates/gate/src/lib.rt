@@ -1,5 +1,5 @@
-// The two calls that Rust and C see, each with a reply of a code and a value: the single call derives a sheet in a lent buffer, the plan call one for
-// each step in a lent work buffer.
+// The calls that Rust and C see, each with a reply of a code and a value: the single call derives a sheet in a lent buffer, the plan call one for each step in a
+// lent work buffer, and the call that shows a node delivers one of these to a reader.
 use base::Component;
 use base::Numbered;
 use base::form;
@@ -12,7 +12,11 @@ ghost use Rattle.base.specs.Form.{narrow};
 ghost use Rattle.calls.specs.Single.{single, step, delivery};
 ghost use Rattle.calls.specs.Walk as Walk;
 ghost use Rattle.containment.specs.Demand.{Contained};
-ghost use Rattle.replies.specs.Reply.{replied};
+ghost use Rattle.plan_form.specs.Form.{leafCount};
+ghost use Rattle.plan_leaves.specs.Code.{nodesFrom, walked, Walkable, Ended};
+ghost use Rattle.replies.specs.Reply.{replied, shown};
+ghost use Rattle.rights.specs.Reveal.{reveal};
+ghost use Rattle.reveal_laws.specs.Runs.{SameRights, Alike, AsPlanned};
 
 // The single call where texts may be joined or united, in buffers that have room for an area.
 fn join_texts(c: Component, node: u32, left: &[u8], right: &[u8], out: &mut [u8]) -> u64
@@ -108,17 +112,11 @@ pub extern "C" fn propagate_property(
     replies::deliver_reply(put, &scratch, out)
 }
 
-// All steps work in the same buffers; those for categories are made where the first step may use them. `contained` is demand 3, of the work buffer as it was
-// handed in and as it is left.
-#[no_mangle]
-pub extern "C" fn propagate_properties(plan: &[u8], work: &mut [u8]) -> u64
-    ensures bytes { λ r. ⌜ replied r (now (work .exit)) ≡ Walk.plan narrow (now (plan .entry)) (now (work .entry)) ⌝ }
-    ensures contained { λ r. ⌜ (r % 2 ^ 32 ≡ 0 → Contained narrow (now (plan .entry)) (now (work .entry)) (now (work .exit))) ⌝ }
+// The steps of a set of nodes from node `from` on, all in the same buffers; those for categories are made where the first step may use them.
+fn walk_steps(plan: &[u8], nodes: u64, from: usize, work: &mut [u8]) -> Walked
+    requires { ⌜ Walkable (now plan) (now work) × (from ≡ leafCount (now plan)) ⌝ }
+    ensures { λ r. ⌜ (walked nodes (now (plan .entry)) r (now (work .exit)) ≡ Walk.walk narrow (now (plan .entry)) (nodesFrom nodes (now (plan .entry)) from) (now (work .entry))) × Ended r ⌝ }
 {
-    let begun = plan_leaves::begin(plan, work);
-    let Walked::Next(k) = begun else {
-        return replies::walked_reply(begun);
-    };
     let mut scratch = [0u8; form::NARROW_RANGE_LONGEST];
     let mut first = [0u8; form::NARROW_ENDS_ROOM];
     let mut second = [0u8; form::NARROW_ENDS_ROOM];
@@ -128,7 +126,8 @@ pub extern "C" fn propagate_properties(plan: &[u8], work: &mut [u8]) -> u64
     let mut no_hints = [0u8; 0];
     let ranges = plan::take_steps(
         plan,
-        k,
+        nodes,
+        from,
         false,
         work,
         &mut first,
@@ -140,7 +139,7 @@ pub extern "C" fn propagate_properties(plan: &[u8], work: &mut [u8]) -> u64
         &mut scratch,
     );
     let Walked::Next(m) = ranges else {
-        return replies::walked_reply(ranges);
+        return ranges;
     };
     let mut second = [0u8; form::NARROW_TEXTS_ROOM];
     let mut us = [0i64; form::NARROW_CATEGORY_LIMIT];
@@ -148,8 +147,9 @@ pub extern "C" fn propagate_properties(plan: &[u8], work: &mut [u8]) -> u64
     let mut store = [0i64; form::NARROW_CATEGORY_LIMIT];
     let mut hints = [0u8; utilities::HINTS];
     let mut scratch = [0u8; form::NARROW_LONGEST];
-    let all = plan::take_steps(
+    plan::take_steps(
         plan,
+        nodes,
         m,
         true,
         work,
@@ -160,6 +160,51 @@ pub extern "C" fn propagate_properties(plan: &[u8], work: &mut [u8]) -> u64
         &mut store,
         &mut hints,
         &mut scratch,
-    );
-    replies::walked_reply(all)
+    )
+}
+
+// `contained` is demand 3, of the work buffer as it was handed in and as it is left.
+#[no_mangle]
+pub extern "C" fn propagate_properties(plan: &[u8], work: &mut [u8]) -> u64
+    ensures bytes { λ r. ⌜ replied r (now (work .exit)) ≡ Walk.plan narrow (now (plan .entry)) (now (work .entry)) ⌝ }
+    ensures contained { λ r. ⌜ (r % 2 ^ 32 ≡ 0 → Contained narrow (now (plan .entry)) (now (work .entry)) (now (work .exit))) ⌝ }
+{
+    let begun = plan_leaves::begin(plan, work);
+    let Walked::Next(k) = begun else {
+        return replies::walked_reply(begun);
+    };
+    replies::walked_reply(walk_steps(plan, sets::FULL, k, work))
+}
+
+// The wanted node's sheet, in an output of its own, if the reader may see it. `rights`, `alike` and `planned` are what two runs, and the plan call, have in common
+// with this one.
+#[no_mangle]
+pub extern "C" fn reveal_node(
+    plan: &[u8],
+    owners: &[u8],
+    reader: u64,
+    wanted: u32,
+    work: &mut [u8],
+    out: &mut [u8],
+) -> u64
+    ensures bytes { λ r. ⌜ shown r (now (work .exit)) (now (out .exit)) ≡ reveal narrow (now (plan .entry)) (now (owners .entry)) reader wanted (now (work .entry)) (now (out .entry)) ⌝ }
+    ensures rights { λ r. ⌜ SameRights narrow (now (plan .entry)) (now (owners .entry)) reader wanted (now (work .entry)) (now (out .entry)) (shown r (now (work .exit)) (now (out .exit))) ⌝ }
+    ensures alike { λ r. ⌜ Alike narrow (now (plan .entry)) (now (owners .entry)) reader wanted (now (work .entry)) (now (out .entry)) (shown r (now (work .exit)) (now (out .exit))) ⌝ }
+    ensures planned { λ r. ⌜ AsPlanned narrow (now (plan .entry)) (now (owners .entry)) reader wanted (now (work .entry)) (now (out .entry)) (shown r (now (work .exit)) (now (out .exit))) ⌝ }
+{
+    let node = wanted as usize;
+    let admitted = rights::admitted(plan, owners, reader, node, work);
+    let Walked::Next(_) = admitted else {
+        return replies::walked_reply(admitted);
+    };
+    let nodes = standing::stands_on(plan, node);
+    let leaves = plan_leaves::check_leaves(plan, nodes, work);
+    let Walked::Next(k) = leaves else {
+        return replies::walked_reply(leaves);
+    };
+    let steps = walk_steps(plan, nodes, k, work);
+    let Walked::Accepted(_) = steps else {
+        return replies::walked_reply(steps);
+    };
+    replies::show_reply(work, node, out)
 }
