@@ -12,8 +12,6 @@ ghost use Rattle.base.specs.Form.{narrow};
 ghost use Rattle.calls.specs.Single.{single, step, delivery};
 ghost use Rattle.calls.specs.Walk as Walk;
 ghost use Rattle.containment.specs.Demand.{Contained};
-ghost use Rattle.plan_form.specs.Form.{leafCount};
-ghost use Rattle.plan_leaves.specs.Code.{nodesFrom, walked, Walkable, Ended};
 ghost use Rattle.replies.specs.Reply.{replied, shown};
 ghost use Rattle.rights.specs.Reveal.{reveal};
 ghost use Rattle.reveal_laws.specs.Runs.{SameRights, Alike, AsPlanned};
@@ -112,57 +110,6 @@ pub extern "C" fn propagate_property(
     replies::deliver_reply(put, &scratch, out)
 }
 
-// The steps of a set of nodes from node `from` on, all in the same buffers; those for categories are made where the first step may use them.
-fn walk_steps(plan: &[u8], nodes: u64, from: usize, work: &mut [u8]) -> Walked
-    requires { ⌜ Walkable (now plan) (now work) × (from ≡ leafCount (now plan)) ⌝ }
-    ensures { λ r. ⌜ (walked nodes (now (plan .entry)) r (now (work .exit)) ≡ Walk.walk narrow (now (plan .entry)) (nodesFrom nodes (now (plan .entry)) from) (now (work .entry))) × Ended r ⌝ }
-{
-    let mut scratch = [0u8; form::NARROW_RANGE_LONGEST];
-    let mut first = [0u8; form::NARROW_ENDS_ROOM];
-    let mut second = [0u8; form::NARROW_ENDS_ROOM];
-    let mut no_us = [0i64; 0];
-    let mut no_bs = [0i64; 0];
-    let mut no_store = [0i64; 0];
-    let mut no_hints = [0u8; 0];
-    let ranges = plan::take_steps(
-        plan,
-        nodes,
-        from,
-        false,
-        work,
-        &mut first,
-        &mut second,
-        &mut no_us,
-        &mut no_bs,
-        &mut no_store,
-        &mut no_hints,
-        &mut scratch,
-    );
-    let Walked::Next(m) = ranges else {
-        return ranges;
-    };
-    let mut second = [0u8; form::NARROW_TEXTS_ROOM];
-    let mut us = [0i64; form::NARROW_CATEGORY_LIMIT];
-    let mut bs = [0i64; form::NARROW_CATEGORY_LIMIT];
-    let mut store = [0i64; form::NARROW_CATEGORY_LIMIT];
-    let mut hints = [0u8; utilities::HINTS];
-    let mut scratch = [0u8; form::NARROW_LONGEST];
-    plan::take_steps(
-        plan,
-        nodes,
-        m,
-        true,
-        work,
-        &mut first,
-        &mut second,
-        &mut us,
-        &mut bs,
-        &mut store,
-        &mut hints,
-        &mut scratch,
-    )
-}
-
 // `contained` is demand 3, of the work buffer as it was handed in and as it is left.
 #[no_mangle]
 pub extern "C" fn propagate_properties(plan: &[u8], work: &mut [u8]) -> u64
@@ -173,7 +120,7 @@ pub extern "C" fn propagate_properties(plan: &[u8], work: &mut [u8]) -> u64
     let Walked::Next(k) = begun else {
         return replies::walked_reply(begun);
     };
-    replies::walked_reply(walk_steps(plan, sets::FULL, k, work))
+    replies::walked_reply(walks::walk_steps(plan, sets::FULL, k, work))
 }
 
 // The wanted node's sheet, in an output of its own, if the reader may see it. `rights`, `alike` and `planned` are what two runs, and the plan call, have in common
@@ -202,7 +149,7 @@ pub extern "C" fn reveal_node(
     let Walked::Next(k) = leaves else {
         return replies::walked_reply(leaves);
     };
-    let steps = walk_steps(plan, nodes, k, work);
+    let steps = walks::walk_steps(plan, nodes, k, work);
     let Walked::Accepted(_) = steps else {
         return replies::walked_reply(steps);
     };

@@ -1,13 +1,14 @@
 -- A plan up to its first step.
+--     some-code                                           a refusal has a number
 --     leaves-past, leaves-more, leaves-refused, leaves-none    the leaves from node k on, of which some are chosen
 --     walk-none                                           no step from node k on
 --     plan-malformed, plan-short                          1 and 27
 --     plan-begun, plan-done                               what the leaves say: a refusal, or the steps are next, or there are none
 -- Assumes nothing.
-use mathlib.Core.Path.{_≡_, sym, ap, _∙_}
+use mathlib.Core.Path.{_≡_, refl, sym, ap, _∙_}
 use mathlib.Core.Bool.{Bool, true, false}
 use mathlib.Core.List.{List}
-use Prim.Native.Nat.{ℕ, suc, _+_, _-_, _≤_, _<_}
+use Prim.Native.Nat.{ℕ, zero, suc, _+_, _-_, _≤_, _<_}
 use native.Mathlib.Omega.{arith}
 use lib.ListN.{length}
 use borrow.Author.Tests.{lt-ltb, le-ltb}
@@ -25,6 +26,11 @@ use Rattle.calls.specs.Walk.{slotAt, sheetIn, walk, leavesThen, leafNodes, step
 use Rattle.plan_leaves.specs.Code.{nodesFrom, walked, Walkable, LeavesSay, Begun, unlessStopped}
 use Rattle.plan_leaves.specs.declared.Walked.{Walked}
 use Rattle.plan_leaves.specs.declared.Walked.the-variants as W
+
+-- a code that is not 0 is a refusal's
+pub some-code : (k : ℕ) → (k ≡ 0 → ⊥) → 0 < k
+some-code zero h = absurd (h refl)
+some-code (suc k) h = omega arith
 
 -- ---- n nodes, from node k on, of which some are chosen
 

@@ -53,10 +53,14 @@ unlessStopped (W.Accepted n) work rest = rest
 unlessStopped (W.Refused k node) work rest = outcome k node work
 unlessStopped (W.Next k) work rest = rest
 
+-- a refusal has a number, and its node fits a reply
+abbrev pub Refusal : ℕ → ℕ → Type 0
+Refusal k node = (0 < k) × (node ≤ noNode)
+
 -- what checking the leaves of a plan answers: the first step is next, or a refusal
 abbrev pub Leaves : List ℕ → Walked → Type 0
 Leaves p (W.Accepted n) = ⊥
-Leaves p (W.Refused k node) = node ≤ noNode
+Leaves p (W.Refused k node) = Refusal k node
 Leaves p (W.Next k) = k ≡ leafCount p
 
 -- .. of those in a set of nodes
@@ -67,11 +71,11 @@ pub record LeavesSay (nodes : ℕ) (p work : List ℕ) (r : Walked) : Type 0 whe
 -- the plan is ready for its steps, of which the first is next, or it has none, or it is refused
 abbrev pub Begun : List ℕ → List ℕ → Walked → Type 0
 Begun p work (W.Accepted n) = n ≤ noNode
-Begun p work (W.Refused k node) = node ≤ noNode
+Begun p work (W.Refused k node) = Refusal k node
 Begun p work (W.Next k) = Walkable p work × (k ≡ leafCount p)
 
 -- a plan was walked to its end or to a refusal, and the value fits a reply
 abbrev pub Ended : Walked → Type 0
 Ended (W.Accepted n) = n ≤ noNode
-Ended (W.Refused k node) = node ≤ noNode
+Ended (W.Refused k node) = Refusal k node
 Ended (W.Next k) = ⊥

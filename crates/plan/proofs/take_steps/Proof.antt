@@ -21,7 +21,7 @@ use Rattle.plan_leaves.specs.Code.{nodesFrom, Steppable}
 use Rattle.plan_step.specs.Code.{Rooms, Large}
 use Rattle.plan_form.proofs.FormLaws.{planned}
 use Rattle.plan.proofs.Taken.{steppable, walk-past, walk-more, walk-refused}
-use Rattle.plan_leaves.proofs.Leaves.{walk-none}
+use Rattle.plan_leaves.proofs.Leaves.{some-code, walk-none}
 use Rattle.plan.proofs.take_steps.Statement.{statement}
 use Rattle.plan.proofs.take_steps.Tie as tie
 
@@ -160,7 +160,7 @@ returns-2 c =
     let p = plan (i .before) in
     let f = planned p (start (i .before) .pre .0 .0 .formed) in
     let h = further i in
-    (sym (l .inv .2 ∙ walk-refused (inSet (start (i .before) .args .nodes)) p (nodeCount p) (l .k) (l .work) h t (done .step-on .result) _ (done .step-on .ensures) (c .before .code-in .ensures) (c .if4 .taken)), omega arith)
+    (sym (l .inv .2 ∙ walk-refused (inSet (start (i .before) .args .nodes)) p (nodeCount p) (l .k) (l .work) h t (done .step-on .result) _ (done .step-on .ensures) (c .before .code-in .ensures) (c .if4 .taken)), (some-code _ (c .if4 .taken), omega arith))
 
 loop-again-2 : tie.Need-loop-again-2 Inv-loop μ-loop
 loop-again-2 c =

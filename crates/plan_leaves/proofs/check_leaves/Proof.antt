@@ -14,7 +14,7 @@ use Rattle.calls.specs.Single.{Outcome}
 use Rattle.plan_form.specs.Form.{leafCount}
 use Rattle.calls.specs.Walk.{leavesThen, leafNodes}
 use Rattle.plan_form.proofs.FormLaws.{Planned, planned}
-use Rattle.plan_leaves.proofs.Leaves.{leaves-past, leaves-more, leaves-refused, leaves-none}
+use Rattle.plan_leaves.proofs.Leaves.{some-code, leaves-past, leaves-more, leaves-refused, leaves-none}
 use Rattle.plan_leaves.proofs.check_leaves.Statement.{statement}
 use Rattle.plan_leaves.proofs.check_leaves.Tie as tie
 
@@ -36,7 +36,7 @@ loop-holds c =
     let a = c .before .before .before .args in (
       omega arith,
       λ rest.
-      ap (λ (n : ℕ). leavesThen narrow (chosen (inSet (a .nodes)) (listFrom n 0 (λ i. i))) (now (a .work)) rest) (sym (sub-zero (leafCount (now (a .plan))))),
+          ap (λ (n : ℕ). leavesThen narrow (chosen (inSet (a .nodes)) (listFrom n 0 (λ i. i))) (now (a .work)) rest) (sym (sub-zero (leafCount (now (a .plan))))),
     )
 
 -- in a turn
@@ -80,10 +80,10 @@ returns c =
     let h = further t in
     record {
       says = λ rest.
-      whole t rest
-      ∙ leaves-refused (inSet (a .nodes)) (leafCount (plan t)) (k t) (now (a .work)) rest h (sym (call .before .before .has .ensures) ∙ call .before .if1 .taken)
-      (call .check-leaf .ensures) (c .if2 .taken);
-      next = omega arith;
+          whole t rest
+          ∙ leaves-refused (inSet (a .nodes)) (leafCount (plan t)) (k t) (now (a .work)) rest h (sym (call .before .before .has .ensures) ∙ call .before .if1 .taken)
+          (call .check-leaf .ensures) (c .if2 .taken);
+      next = (some-code _ (c .if2 .taken), omega arith);
     }
 
 -- the leaf passed, or is not in the set
@@ -96,11 +96,11 @@ loop-again c =
     let has = c .before .has .ensures in (
       omega arith,
       λ rest.
-      whole t rest
-      ∙ ⊎-elim
-      (λ w. leaves-more (inSet (a .nodes)) n (k t) (now (a .work)) rest h (sym has ∙ w .0 .taken) (sym (w .1 .ensures) ∙ w .2 .left))
-      (λ w. leaves-past (inSet (a .nodes)) n (k t) (now (a .work)) rest h (sym has ∙ w .left))
-      (c .if1 .came),
+          whole t rest
+          ∙ ⊎-elim
+          (λ w. leaves-more (inSet (a .nodes)) n (k t) (now (a .work)) rest h (sym has ∙ w .0 .taken) (sym (w .1 .ensures) ∙ w .2 .left))
+          (λ w. leaves-past (inSet (a .nodes)) n (k t) (now (a .work)) rest h (sym has ∙ w .left))
+          (c .if1 .came),
     )
 
 returns-2 : tie.Need-returns-2 Inv-loop μ-loop
