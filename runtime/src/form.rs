@@ -178,4 +178,6 @@ pub mod plan {
     pub const ARRAYS_AT: usize = 2 * SIZE;
     /// What the right operand is multiplied by.
     pub const RIGHT_UNIT: u64 = 65_536;
+    /// Rinks are numbered from 0 to below this: a set of them has a bit for each, 64 in all.
+    pub const RINKS: u32 = u64::BITS;
 }

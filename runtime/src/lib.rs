@@ -1,8 +1,8 @@
-//! Safe Rust over the two proved calls of the gate, and what the command `gate` is made of.
+//! Safe Rust over the three proved calls of the gate, and what the command `gate` is made of.
 //!
-//! A sheet describes an array: its range or categories, size, origin and marks. [`propagate_property`] derives the sheet of one component's result, [`propagate_properties`] walks a whole plan. Both are proved code of a static library; nothing here derives a range.
+//! A sheet describes an array: its range or categories, size, origin and marks. [`propagate_property`] derives the sheet of one component's result, [`propagate_properties`] walks a whole plan, [`reveal_node`] shows one node of a plan to a reader who may see it. They are proved code of a static library; nothing here derives a range or decides about rights.
 //!
-//! Three layers, each usable alone: bytes ([`propagate_property`], [`propagate_properties`]), values ([`Sheet`], [`Plan`], [`derive()`]), and plans as text ([`text::read`]).
+//! Three layers, each usable alone: bytes ([`propagate_property`], [`propagate_properties`], [`reveal_node`]), values ([`Sheet`], [`Plan`], [`Rinks`], [`derive()`]), and plans as text ([`text::read`]).
 //!
 //! ```
 //! use gate_runtime::text;
@@ -40,12 +40,14 @@ mod le;
 mod nature;
 mod plan;
 mod refusal;
+mod rinks;
 mod sheet;
 
-pub use calls::{derive, propagate_properties, propagate_property, Stopped, Walk};
+pub use calls::{derive, propagate_properties, propagate_property, reveal_node, Stopped, Walk};
 pub use component::Component;
 pub use fault::Fault;
 pub use nature::{Bound, Ends, Nature};
 pub use plan::{Plan, Step};
 pub use refusal::Refusal;
+pub use rinks::Rinks;
 pub use sheet::{DataType, Group, Key, Sheet};

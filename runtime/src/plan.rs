@@ -6,7 +6,9 @@ use crate::form::plan::{ARRAYS_AT, NODES, RIGHT_UNIT, SIZE, SLOT};
 use crate::form::NUMBER;
 use crate::le::{append, capped, number_at};
 use crate::refusal::Refusal;
+use crate::rinks::Rinks;
 use crate::sheet::Sheet;
+use std::collections::BTreeSet;
 
 /// One step of a plan. For abs and negative both operands are the same node.
 #[derive(Clone, Copy, Debug, PartialEq, Eq)]
@@ -67,6 +69,35 @@ impl Plan {
     /// The step of a node that is no leaf.
     pub fn step_of(&self, node: usize) -> Option<&Step> {
         self.steps.get(node.checked_sub(self.leaves)?)
+    }
+
+    /// The leaves that a node stands on, itself if it is one; none of a node that the plan does not have.
+    pub fn leaves_below(&self, node: usize) -> BTreeSet<usize> {
+        if node >= self.nodes() {
+            return BTreeSet::new();
+        }
+        let mut below = BTreeSet::from([node]);
+        // Operands are earlier nodes, so that one way down finds all.
+        for node in (0..=node).rev() {
+            if let Some(step) = self.step_of(node).filter(|_| below.remove(&node)) {
+                below.extend([step.left, step.right]);
+            }
+        }
+        below
+    }
+
+    /// The owners of a node, for a set of each leaf: those of all leaves that it stands on. The proved call finds them by itself; these are shown.
+    ///
+    /// ```
+    /// use gate_runtime::{Component, Plan, Rinks};
+    /// let mut plan = Plan::new(3);
+    /// let sum = plan.step(Component::Add, 0, 2);
+    /// let owners = [&[3][..], &[40], &[3, 17]].map(|rinks| Rinks::of(rinks).unwrap());
+    /// assert_eq!(plan.owners_of(&owners, sum).to_string(), "{3, 17}");
+    /// ```
+    pub fn owners_of(&self, owners: &[Rinks], node: usize) -> Rinks {
+        let sets = self.leaves_below(node).into_iter().filter_map(|leaf| owners.get(leaf));
+        sets.fold(Rinks::NONE, |all, set| all.union(*set))
     }
 
     /// The plan's bytes. Numbers that their field cannot hold are written as the greatest that it can: either makes the plan malformed (1).

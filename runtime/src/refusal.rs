@@ -64,15 +64,17 @@ pub enum Refusal {
     TooMuchText = 28,
     /// 29: The number of category lists is neither one nor the output's column count.
     CategoryListCount = 29,
+    /// 30: The reader may not see the node.
+    NotForReader = 30,
 }
 
 /// A refusal, its sentence, and what a person can do about it.
 type Row = (Refusal, &'static str, &'static str);
 
 /// By number.
-const TABLE: [Row; 29] = [
+const TABLE: [Row; 30] = [
     (Refusal::MalformedPlan, "The plan is malformed.",
-     "The bytes of a plan have another length than its sizes call for, there are no nodes or more than 32, no leaves or more leaves than nodes, a component is not 1 to 10, an operand is not an earlier node, or abs or negative names two different operands. The command `gate cards` writes plans that never meet it."),
+     "The bytes of a plan have another length than its sizes call for, there are no nodes or more than 32, no leaves or more leaves than nodes, a component is not 1 to 10, an operand is not an earlier node, or abs or negative names two different operands. The call that shows one node also says it of a node that the plan does not have, and of owner sets that are not one for each leaf. The command `gate cards` writes plans that never meet it, and `gate show` meets it only if its NODE is a number that no node has."),
     (Refusal::NoSuchComponent, "The component is not 1 to 10.",
      "Only a single call can meet it; in a plan the same fault is refusal 1."),
     (Refusal::SheetSize, "A sheet's size exceeds its limit, or its length isn't what its sizes call for.",
@@ -124,11 +126,13 @@ const TABLE: [Row; 29] = [
     (Refusal::TooManyCategories, "The result holds over 128 categories, counted as they would be written.",
      "Of equal results in one list the first stays, under abs and negative too, and what is left is counted: abs of -3 and 3 is one category. A single list goes with every output column and then counts once for each. Take fewer categories, or fewer columns. 24 is tested first."),
     (Refusal::OutputTooShort, "The output is too short.",
-     "A single call needs as many bytes as the derived sheet has, at most 2,308. A plan call needs 2,308 bytes of work buffer for each node. The command `gate cards` always lends enough."),
+     "A single call needs as many bytes as the derived sheet has, at most 2,308. A plan call needs 2,308 bytes of work buffer for each node. The call that shows one node needs both, tests the work buffer before it asks for the reader's rights, and its output last. The command `gate` always lends enough."),
     (Refusal::TooMuchText, "The result's text exceeds 1,024 bytes after repeats go.",
      "Add joins every left text with every right text, and pool takes the texts of both; of equal ones the first stays. The lists count as they would be written: a single list goes with every output column and then counts once for each. Take shorter texts, fewer of them, or fewer columns. It is tested directly after 26."),
     (Refusal::CategoryListCount, "The number of category lists is neither one nor the output's column count.",
      "Write one category list for all columns, or one for each. A leaf is not refused with it; the steps that use its lists count them: abs and negative, and add, subtract, multiply, divide, pool and power of type float where both operands have categories. Beside a range or an absent nature no list is counted. The columns are the result's, so that beside three columns a single column may have three lists; the output of power has left's. It is tested directly after 20: left finishes 19, 20 and 29 before right, and 21 follows."),
+    (Refusal::NotForReader, "The reader may not see the node.",
+     "The owners of a node are the rinks that own any of the leaves it stands on, each counted once. The node is shown if all of them lie in the reader's set, or if there are five or more; a node without owners is shown to everybody. Ask with a set that holds the owners named, or for a node that stands on the leaves of more rinks. It is tested before any sheet is read, so that it tells nothing of one. Only the call that shows one node (`gate show`) meets it; `gate cards` asks nobody for rights."),
 ];
 
 impl Refusal {
@@ -136,7 +140,7 @@ impl Refusal {
     ///
     /// ```
     /// use gate_runtime::Refusal;
-    /// assert_eq!(Refusal::all().count(), 29);
+    /// assert_eq!(Refusal::all().count(), 30);
     /// ```
     pub fn all() -> impl Iterator<Item = Refusal> {
         TABLE.iter().map(|row| row.0)
@@ -199,7 +203,7 @@ mod tests {
             assert_eq!(Refusal::from_code(refusal.code()), Some(refusal));
             assert!(refusal.sentence().ends_with('.') && refusal.explain().ends_with('.'));
         }
-        assert_eq!(Refusal::from_code(30), None);
+        assert_eq!(Refusal::from_code(31), None);
         // Texts name the limits in figures.
         assert_eq!((NARROW.longest(), NARROW.text), (2308, 1024));
         assert!(Refusal::SheetSize.explain().contains("2,308") && Refusal::OutputTooShort.explain().contains("2,308"));

@@ -5,6 +5,9 @@
 mod arithmetic;
 mod bounds;
 mod counts;
+mod rights;
+
+pub use rights::{of_reveal, WITHHELD};
 
 use crate::calls::{propagate_property, Stopped, Walk};
 use crate::component::Component;
@@ -239,7 +242,7 @@ impl Pair<'_> {
             Refusal::WholeOverflow => self.overflow(),
             Refusal::TooManyCategories => self.too_many(),
             Refusal::TooMuchText => self.too_much_text(),
-            // 1 to 5 and 27 are explained before; 25 is never given.
+            // 1 to 5 and 27 are explained before; 25 is never given, and 30 by no step.
             _ => Vec::new(),
         }
     }

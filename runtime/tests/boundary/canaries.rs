@@ -10,26 +10,26 @@ const CANARY: u8 = 0xC5;
 const AROUND: usize = 96;
 
 /// A buffer with canary bytes on both sides.
-struct Guarded {
+pub struct Guarded {
     bytes: Vec<u8>,
 }
 
 impl Guarded {
-    fn new(inside: &[u8]) -> Guarded {
+    pub fn new(inside: &[u8]) -> Guarded {
         let side = [CANARY; AROUND];
         Guarded { bytes: [&side[..], inside, &side[..]].concat() }
     }
 
-    fn lent(&self) -> &[u8] {
+    pub fn lent(&self) -> &[u8] {
         &self.bytes[AROUND..self.bytes.len() - AROUND]
     }
 
-    fn lent_mut(&mut self) -> &mut [u8] {
+    pub fn lent_mut(&mut self) -> &mut [u8] {
         let end = self.bytes.len() - AROUND;
         &mut self.bytes[AROUND..end]
     }
 
-    fn check_sides(&self) {
+    pub fn check_sides(&self) {
         let end = self.bytes.len() - AROUND;
         assert!(self.bytes[..AROUND].iter().all(|byte| *byte == CANARY), "a byte before the buffer changed");
         assert!(self.bytes[end..].iter().all(|byte| *byte == CANARY), "a byte after the buffer changed");
@@ -78,7 +78,7 @@ fn an_output_is_long_enough_exactly_from_the_sheets_length_on() {
 }
 
 /// A random plan, its leaves in a work buffer with bytes behind every sheet and behind the last slot.
-fn drawn_plan(draws: &mut Draws) -> (Plan, Vec<u8>) {
+pub fn drawn_plan(draws: &mut Draws) -> (Plan, Vec<u8>) {
     let mut plan = Plan::new(1 + draws.below(4));
     for _ in 0..draws.below(8) {
         let (left, right) = (draws.below(plan.nodes()), draws.below(plan.nodes()));

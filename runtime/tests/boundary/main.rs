@@ -1,4 +1,4 @@
-//! Both proved calls from Rust: every refusal, every lent byte, threads, and the forms of sheets and plans.
+//! The three proved calls from Rust: every refusal, every lent byte, rights, threads, and the forms of sheets and plans.
 
 mod canaries;
 mod causes;
@@ -7,6 +7,7 @@ mod lists;
 mod made;
 mod mapped;
 mod refusals;
+mod rights;
 mod round_trips;
 mod texts;
 mod threads;

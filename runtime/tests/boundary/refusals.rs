@@ -3,7 +3,7 @@
 use crate::made::{both_signs, but, float, floats_listed, listed, plain, private, texts, whole, whole_ends};
 use gate_runtime::causes::{self, Call, NO_CAUSE};
 use gate_runtime::form::plan::SLOT;
-use gate_runtime::{propagate_properties, propagate_property, DataType, Ends, Group, Key, Nature, Plan, Refusal, Sheet, Stopped};
+use gate_runtime::{propagate_properties, propagate_property, DataType, Ends, Group, Key, Nature, Plan, Refusal, Rinks, Sheet, Stopped};
 use std::collections::BTreeSet;
 use std::num::NonZeroU32;
 
@@ -348,7 +348,8 @@ fn every_single_call_case_has_its_number_and_cause() {
 
 #[test]
 fn every_number_but_25_is_reached_and_25_says_why_not() {
-    let reached: BTreeSet<u32> = cases().iter().map(|case| case.number).chain([1]).collect();
+    let for_a_reader = Plan::new(1).reveal(&[one()], &[Rinks::from_bits(1)], Rinks::NONE, 0).unwrap_err().refusal.code();
+    let reached: BTreeSet<u32> = cases().iter().map(|case| case.number).chain([1, for_a_reader]).collect();
     let all: BTreeSet<u32> = Refusal::all().map(Refusal::code).filter(|number| *number != 25).collect();
     assert_eq!(reached, all);
     let text = Refusal::PowerCategoryOverflow.explain();

@@ -2,7 +2,7 @@
 
 use crate::made::{component, sheet, Draws};
 use gate_runtime::form::plan::SLOT;
-use gate_runtime::{propagate_property, Component, Plan, Refusal, Sheet, Stopped};
+use gate_runtime::{propagate_property, Component, Plan, Refusal, Rinks, Sheet, Stopped};
 use std::sync::Barrier;
 use std::thread;
 
@@ -34,8 +34,13 @@ fn singles() -> Vec<Single> {
         .collect()
 }
 
-/// A plan's leaves and its result when nobody else calls.
-type Walked = (Plan, Vec<Sheet>, Result<usize, Stopped>, Vec<u8>);
+/// A plan's leaves and what comes of them when nobody else calls: the walk, and each node for a reader who may see some.
+type Walked = (Plan, Vec<Sheet>, Result<usize, Stopped>, Vec<u8>, Vec<Result<Sheet, Stopped>>);
+
+fn shown(plan: &Plan, leaves: &[Sheet]) -> Vec<Result<Sheet, Stopped>> {
+    let owners = [Rinks::from_bits(1), Rinks::from_bits(2)];
+    (0..plan.nodes()).map(|node| plan.reveal(leaves, &owners, owners[0], node)).collect()
+}
 
 fn plans() -> Vec<Walked> {
     let mut draws = Draws::new(14);
@@ -47,8 +52,8 @@ fn plans() -> Vec<Walked> {
                 let left = draws.below(plan.nodes());
                 plan.step(Component::Add, left, left);
             }
-            let walk = plan.walk(&leaves);
-            (plan, leaves, walk.outcome, walk.work)
+            let (walk, shown) = (plan.walk(&leaves), shown(&plan, &leaves));
+            (plan, leaves, walk.outcome, walk.work, shown)
         })
         .collect()
 }
@@ -57,6 +62,7 @@ fn plans() -> Vec<Walked> {
 fn threads_get_the_answers_of_a_single_one() {
     let (singles, plans) = (singles(), plans());
     assert!(singles.iter().filter(|single| single.reply.is_ok()).count() > 100);
+    assert!(plans.iter().filter(|plan| plan.4.iter().any(Result::is_ok) && plan.4.iter().any(Result::is_err)).count() > 100);
     let start = Barrier::new(THREADS);
     thread::scope(|scope| {
         for turn in 0..THREADS {
@@ -69,9 +75,10 @@ fn threads_get_the_answers_of_a_single_one() {
                     assert_eq!(call(single.component, &single.left, &single.right), single.reply);
                 }
                 for place in 0..plans.len() {
-                    let (plan, leaves, outcome, work) = &plans[(place + turn * 5) % plans.len()];
+                    let (plan, leaves, outcome, work, sheets) = &plans[(place + turn * 5) % plans.len()];
                     let walk = plan.walk(leaves);
                     assert_eq!((&walk.outcome, &walk.work), (outcome, work));
+                    assert_eq!(&shown(plan, leaves), sheets);
                 }
             });
         }
