@@ -5,9 +5,10 @@
 use crate::cards::{Card, Outcome, Stop, Walked};
 use crate::nature::{Bound, Nature};
 use crate::quotes::{escaped, is_hidden};
+use crate::rinks::Rinks;
 use crate::sheet::{Group, Key, Sheet};
 use crate::show;
-use crate::text::Problem;
+use crate::text::{NamedPlan, Problem};
 
 /// A JSON value.
 #[derive(Clone, Debug, PartialEq)]
@@ -137,7 +138,7 @@ fn card(card: &Card) -> Json {
         Outcome::Walked(walked) => {
             members.push(("nodes", Json::list(0..walked.nodes(), |n| node(walked, n))));
             members.push(("notes", Json::list(walked.notes(), Json::text)));
-            members.push(("refusal", Json::optional(walked.stop(), |stop| refusal(walked, &stop))));
+            members.push(("refusal", Json::optional(walked.stop(), |stop| refusal(&walked.plan, &stop))));
         }
     }
     Json::Object(members)
@@ -153,11 +154,11 @@ fn problem(problem: &Problem) -> Json {
     ])
 }
 
-fn refusal(walked: &Walked, stop: &Stop) -> Json {
+fn refusal(plan: &NamedPlan, stop: &Stop) -> Json {
     let node = stop.stopped.node;
     Json::Object(vec![
         ("node", Json::optional(node, |n| Json::whole(n as i64))),
-        ("name", Json::optional(node, |n| Json::text(walked.name(n)))),
+        ("name", Json::optional(node, |n| Json::text(plan.name(n)))),
         ("number", Json::whole(stop.stopped.refusal.code())),
         ("sentence", Json::text(stop.stopped.refusal.sentence())),
         ("causes", Json::list(&stop.causes, Json::text)),
@@ -170,15 +171,21 @@ fn node(walked: &Walked, node: usize) -> Json {
         let both = [step.left, step.right];
         both[..if step.component.is_unary() { 1 } else { 2 }].to_vec()
     });
-    Json::Object(vec![
+    let mut members = vec![
         ("node", Json::whole(node as i64)),
         ("name", Json::text(walked.name(node))),
         ("line", Json::optional(walked.plan.lines.get(node), |line| Json::whole(*line as i64))),
         ("component", Json::optional(step, |step| Json::text(step.component.word()))),
         ("operands", Json::list(operands, |n| Json::whole(n as i64))),
-        ("state", Json::text(walked.state(node).word())),
-        ("sheet", Json::optional(walked.sheet(node), sheet)),
-    ])
+    ];
+    members.extend(walked.plan.stated_owners(node).map(|owners| ("owners", rinks(owners))));
+    members.push(("state", Json::text(walked.state(node).word())));
+    members.push(("sheet", Json::optional(walked.sheet(node), sheet)));
+    Json::Object(members)
+}
+
+fn rinks(set: Rinks) -> Json {
+    Json::list(set.iter(), Json::whole)
 }
 
 fn sheet(sheet: &Sheet) -> Json {

@@ -2,6 +2,7 @@
 
 use crate::nature::{Bound, Nature};
 use crate::quotes::quoted;
+use crate::rinks::Rinks;
 use crate::sheet::{Group, Key, Sheet};
 
 /// A lower end: `-5`, `+0.5`, `-inf` if absent. A float end that overflowed is `+overflow` or `-overflow`, so that it is not taken for an absent one.
@@ -100,6 +101,11 @@ pub fn groups(groups: &[Group]) -> String {
     };
     let words: Vec<String> = groups.iter().map(word).collect();
     format!("{{{}}}", words.join(", "))
+}
+
+/// Owners as a leaf of a plan's text has them: `owners {3, 17}`.
+pub fn owners(owners: Rinks) -> String {
+    format!("owners {owners}")
 }
 
 /// The four marks, then what else is stated beside the usual.

@@ -1,6 +1,6 @@
 //! The card of a plan: every node with its derived range, or why the plan was refused.
 
-mod notes;
+pub(crate) mod notes;
 pub(crate) mod table;
 
 use crate::calls::{Stopped, Walk};
@@ -137,7 +137,7 @@ impl Walked {
 
     /// A node's name.
     pub fn name(&self, node: usize) -> &str {
-        self.plan.names.get(node).map_or("", String::as_str)
+        self.plan.name(node)
     }
 
     /// A node's sheet, if it stands.
@@ -147,15 +147,7 @@ impl Walked {
 
     /// "leaf", or the component and the names of its operands.
     pub fn origin(&self, node: usize) -> String {
-        match self.plan.plan.step_of(node) {
-            None => "leaf".to_string(),
-            Some(step) if step.component.is_unary() => {
-                format!("{} {}", step.component, self.name(step.left))
-            }
-            Some(step) => {
-                format!("{} {} {}", step.component, self.name(step.left), self.name(step.right))
-            }
-        }
+        self.plan.origin(node)
     }
 
     /// How far a node came.
@@ -189,11 +181,7 @@ impl Walked {
             None => "the plan".to_string(),
             Some(node) => {
                 let line = self.plan.lines.get(node).copied().unwrap_or(0);
-                let origin = match self.plan.plan.step_of(node) {
-                    None => ", a leaf".to_string(),
-                    Some(_) => format!(" = {}", self.origin(node)),
-                };
-                format!("node {node} `{}`{origin} (line {line})", self.name(node))
+                format!("{} (line {line})", self.plan.place(node))
             }
         };
         let causes = causes::of_walk(&self.plan.plan, &self.walk, stopped, &self.plan.names);
@@ -214,13 +202,7 @@ impl Walked {
             Some(stop) => format!("refused with {}", stop.stopped.refusal.code()),
         };
         let mut text = format!("{file}: {verdict}, {count}\n\n{}", table::of(self));
-        let notes = self.notes();
-        if !notes.is_empty() {
-            text.push('\n');
-        }
-        for note in notes {
-            text.push_str(&format!("Note: {note}\n"));
-        }
+        text.push_str(&notes::render(&self.notes()));
         if let Some(stop) = stop {
             text.push('\n');
             text.push_str(&stop.render());
@@ -230,7 +212,8 @@ impl Walked {
 }
 
 impl Stop {
-    fn render(&self) -> String {
+    /// The refusal in words, and where more is said of it.
+    pub(crate) fn render(&self) -> String {
         let refusal = self.stopped.refusal;
         let mut text = format!("Refused: {}\n  {refusal}\n", self.place);
         for cause in &self.causes {

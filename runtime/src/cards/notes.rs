@@ -7,37 +7,79 @@ use crate::component::Component;
 use crate::nature::{Bound, Nature};
 use crate::quotes::has_numbers;
 use crate::sheet::Sheet;
-use std::collections::BTreeSet;
+use crate::text::NamedPlan;
 
 pub(super) fn of(walked: &Walked) -> Vec<String> {
     let derived = |node: &usize| walked.state(*node) == State::Derived;
     let mut notes: Vec<String> = (0..walked.nodes()).filter(derived).flat_map(|node| of_step(walked, node)).collect();
-    if (0..walked.nodes()).any(|node| any_entry(walked.sheet(node), |(l, u)| l == Bound::Absent || u == Bound::Absent)) {
+    notes.extend((0..walked.plan.plan.leaves).filter_map(|leaf| of_owners(walked, leaf)));
+    let sheets: Vec<&Sheet> = (0..walked.nodes()).filter_map(|node| walked.sheet(node)).collect();
+    notes.extend(of_signs(&sheets));
+    notes
+}
+
+/// The notes on a sheet that is shown alone: what is said by its operands' sheets is left out.
+pub(crate) fn of_one(plan: &NamedPlan, node: usize, sheet: &Sheet) -> Vec<String> {
+    let mut notes: Vec<String> = of_overflow(&named(plan, node), sheet).into_iter().collect();
+    notes.extend(of_signs(&[sheet]));
+    notes
+}
+
+/// The notes as a card ends with them.
+pub(crate) fn render(notes: &[String]) -> String {
+    let lines: Vec<String> = notes.iter().map(|note| format!("Note: {note}\n")).collect();
+    if lines.is_empty() {
+        return String::new();
+    }
+    format!("\n{}", lines.concat())
+}
+
+fn named(plan: &NamedPlan, node: usize) -> String {
+    format!("node {node} `{}`", plan.name(node))
+}
+
+/// What signs on the card stand for.
+fn of_signs(sheets: &[&Sheet]) -> Vec<String> {
+    let mut notes = Vec::new();
+    if sheets.iter().any(|sheet| any_entry(sheet, |(l, u)| l == Bound::Absent || u == Bound::Absent)) {
         notes.push("-inf and +inf stand for an end that sets no bound.".to_string());
     }
-    if (0..walked.nodes()).any(|node| has_escape(walked.sheet(node))) {
+    if sheets.iter().any(|sheet| has_escape(sheet)) {
         notes.push(r"in a text \xHH stands for one byte, and \u{..} for a character that is not shown.".to_string());
     }
     notes
 }
 
-fn has_escape(sheet: Option<&Sheet>) -> bool {
-    match sheet {
-        Some(Sheet { nature: Nature::TextCategories(lists), .. }) => lists.iter().flatten().any(|text| has_numbers(text)),
+fn of_overflow(name: &str, sheet: &Sheet) -> Option<String> {
+    let meaning = "-overflow and +overflow stand for an end that is too far from zero for a float and so infinite";
+    any_entry(sheet, infinite).then(|| format!("{name}: {meaning}; a step that uses this node is refused with 5."))
+}
+
+/// A leaf that was left out where others have owners: whoever left it out should know what it means.
+fn of_owners(walked: &Walked, leaf: usize) -> Option<String> {
+    let plan = &walked.plan;
+    let given = plan.owners.get(leaf).is_some_and(Option::is_some);
+    let private = walked.sheet(leaf).is_some_and(|sheet| !sheet.releasable);
+    if given || !private || plan.stated_owners(leaf).is_none() {
+        return None;
+    }
+    Some(format!("{}: it is private and no owners are given, so that `gate show` shows it to everybody.", named(plan, leaf)))
+}
+
+fn has_escape(sheet: &Sheet) -> bool {
+    match &sheet.nature {
+        Nature::TextCategories(lists) => lists.iter().flatten().any(|text| has_numbers(text)),
         _ => false,
     }
 }
 
-fn any_entry(sheet: Option<&Sheet>, test: impl Fn((Bound, Bound)) -> bool) -> bool {
-    let Some(Sheet { nature, .. }) = sheet else {
-        return false;
-    };
-    (0..nature.lists()).filter_map(|place| nature.entry(place)).any(test)
+fn any_entry(sheet: &Sheet, test: impl Fn((Bound, Bound)) -> bool) -> bool {
+    (0..sheet.nature.lists()).filter_map(|place| sheet.nature.entry(place)).any(test)
 }
 
 fn of_step(walked: &Walked, node: usize) -> Vec<String> {
     let mut notes = Vec::new();
-    let name = format!("node {node} `{}`", walked.name(node));
+    let name = named(&walked.plan, node);
     if too_narrow(walked, node) {
         let reason = "divide by a range with one end at zero takes its end from the other one";
         notes.push(format!("{name}: {reason}; results may lie outside of the range shown."));
@@ -46,10 +88,7 @@ fn of_step(walked: &Walked, node: usize) -> Vec<String> {
         notes.push(format!("{name}: it has left's marks and so counts as releasable, while right is private."));
     }
     notes.extend(of_pool(walked, node).into_iter().map(|text| format!("{name}: {text}.")));
-    if any_entry(walked.sheet(node), infinite) {
-        let meaning = "-overflow and +overflow stand for an end that is too far from zero for a float and so infinite";
-        notes.push(format!("{name}: {meaning}; a step that uses this node is refused with 5."));
-    }
+    notes.extend(walked.sheet(node).and_then(|sheet| of_overflow(&name, sheet)));
     notes
 }
 
@@ -78,7 +117,7 @@ fn of_pool(walked: &Walked, node: usize) -> Vec<String> {
         return Vec::new();
     };
     let mut notes = Vec::new();
-    let (left, right) = (leaves_below(walked, step.left), leaves_below(walked, step.right));
+    let (left, right) = (walked.plan.plan.leaves_below(step.left), walked.plan.plan.leaves_below(step.right));
     let private = |leaf: &usize| walked.sheet(*leaf).is_some_and(|sheet| !sheet.releasable);
     for leaf in left.intersection(&right).copied().filter(private) {
         let stability = sheet.c_stability;
@@ -94,17 +133,6 @@ fn of_pool(walked: &Walked, node: usize) -> Vec<String> {
         );
     }
     notes
-}
-
-/// The leaves that a node stands on, itself if it is one. Operands are earlier nodes, so that one way down finds all.
-fn leaves_below(walked: &Walked, node: usize) -> BTreeSet<usize> {
-    let mut below = BTreeSet::from([node]);
-    for node in (0..=node).rev() {
-        if let Some(step) = walked.plan.plan.step_of(node).filter(|_| below.remove(&node)) {
-            below.extend([step.left, step.right]);
-        }
-    }
-    below
 }
 
 fn one_zero_end(left: &Nature, right: &Nature) -> bool {

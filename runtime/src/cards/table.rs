@@ -2,8 +2,10 @@
 
 use super::{State, Walked};
 use crate::nature::Nature;
+use crate::rinks::Rinks;
 use crate::sheet::Sheet;
 use crate::show::{self, width};
+use crate::text::NamedPlan;
 
 /// Widest line of categories, in cells.
 const WRAP: usize = 48;
@@ -28,33 +30,53 @@ const HEADINGS: [(&str, bool); 9] = [
 
 /// One row for each node.
 pub(super) fn of(walked: &Walked) -> String {
+    with_heading((0..walked.nodes()).map(|node| row(walked, node)))
+}
+
+/// The row of one node, whose sheet is shown alone.
+pub(crate) fn of_one(plan: &NamedPlan, node: usize, sheet: &Sheet) -> String {
+    with_heading([[beginning(plan, node), of_sheet(sheet, plan.stated_owners(node), false)].concat()])
+}
+
+fn with_heading(rows: impl IntoIterator<Item = Vec<Cell>>) -> String {
     let heading: Vec<Cell> = HEADINGS.iter().map(|(name, _)| vec![name.to_string()]).collect();
-    let mut rows = vec![heading];
-    rows.extend((0..walked.nodes()).map(|node| row(walked, node)));
-    lay_out(&rows)
+    let all: Vec<Vec<Cell>> = [heading].into_iter().chain(rows).collect();
+    lay_out(&all)
 }
 
 fn row(walked: &Walked, node: usize) -> Vec<Cell> {
-    let mut cells = vec![vec![node.to_string()], vec![walked.name(node).to_string()], vec![walked.origin(node)]];
-    let state = walked.state(node);
-    match walked.sheet(node) {
-        Some(sheet) => {
-            cells.push(vec![sheet.data_type.word().to_string()]);
-            let mut lines = nature_lines(sheet);
-            if state == State::Refused {
-                lines.push("refused".to_string());
-            }
-            cells.push(lines);
-            let optional = |value: Option<i64>| vec![value.map_or("-".to_string(), |v| v.to_string())];
-            cells.extend([sheet.columns, sheet.rows, sheet.dataset].map(optional));
-            cells.push(vec![show::marks(sheet)]);
-        }
-        None => {
-            cells.push(vec![String::new()]);
-            cells.push(vec![walked.blank(node).to_string()]);
-        }
+    let owners = walked.plan.stated_owners(node);
+    let rest = match walked.sheet(node) {
+        Some(sheet) => of_sheet(sheet, owners, walked.state(node) == State::Refused),
+        None => without_sheet(walked.blank(node), owners),
+    };
+    [beginning(&walked.plan, node), rest].concat()
+}
+
+/// Number, name and origin.
+fn beginning(plan: &NamedPlan, node: usize) -> Vec<Cell> {
+    vec![vec![node.to_string()], vec![plan.name(node).to_string()], vec![plan.origin(node)]]
+}
+
+/// The cells behind the origin.
+fn of_sheet(sheet: &Sheet, owners: Option<Rinks>, refused: bool) -> Vec<Cell> {
+    let mut lines = nature_lines(sheet);
+    if refused {
+        lines.push("refused".to_string());
     }
+    let mut cells = vec![vec![sheet.data_type.word().to_string()], lines];
+    let optional = |value: Option<i64>| vec![value.map_or("-".to_string(), |v| v.to_string())];
+    cells.extend([sheet.columns, sheet.rows, sheet.dataset].map(optional));
+    let marks = [Some(show::marks(sheet)), owners.map(show::owners)];
+    cells.push(vec![marks.into_iter().flatten().collect::<Vec<String>>().join(", ")]);
     cells
+}
+
+/// The cells behind the origin where there is no sheet: the owners are known all the same.
+fn without_sheet(blank: &str, owners: Option<Rinks>) -> Vec<Cell> {
+    let none = || vec![String::new()];
+    let marks = vec![owners.map(show::owners).unwrap_or_default()];
+    vec![none(), vec![blank.to_string()], none(), none(), none(), marks]
 }
 
 /// The nature line by line: equal neighbours share a line, and long lists go over several.

@@ -6,7 +6,8 @@ use crate::cards::table::nature_lines;
 use crate::cards::{State, Walked};
 use crate::component::Component;
 use crate::quotes::is_hidden;
-use crate::show::{folded, width};
+use crate::sheet::Sheet;
+use crate::show::{self, folded, width};
 use layout::{Layout, Size};
 
 /// Distance from the picture's edge, and the height of the title above the plan.
@@ -98,10 +99,16 @@ fn caption(walked: &Walked) -> Lines {
 fn lines_of(walked: &Walked, node: usize) -> Lines {
     let mut lines = vec![("name", walked.name(node).to_string())];
     lines.push(("quiet", format!("{node}: {}", walked.origin(node))));
-    let Some(sheet) = walked.sheet(node) else {
-        lines.push(("range", walked.blank(node).to_string()));
-        return lines;
-    };
+    match walked.sheet(node) {
+        Some(sheet) => lines.extend(lines_of_sheet(sheet)),
+        None => lines.push(("range", walked.blank(node).to_string())),
+    }
+    lines.extend(walked.plan.stated_owners(node).map(|owners| ("quiet", show::owners(owners))));
+    lines
+}
+
+fn lines_of_sheet(sheet: &Sheet) -> Lines {
+    let mut lines = Vec::new();
     let nature = nature_lines(sheet);
     let more = nature.len().saturating_sub(MOST_LINES);
     lines.extend(nature.into_iter().take(MOST_LINES).map(|line| ("range", line)));

@@ -3,13 +3,14 @@
 use super::line::Line;
 use super::problem::{nearest, Problem};
 use super::tokens::Token;
-use super::values::{entries, float, group, list, lists, number, or_absent, texts, truth, whole, FLOAT_END, WHOLE_END};
+use super::values::{entries, float, group, list, lists, number, or_absent, rinks, texts, truth, whole, FLOAT_END, WHOLE_END};
 use crate::nature::Nature;
+use crate::rinks::Rinks;
 use crate::sheet::{DataType, Group, Sheet};
 use std::num::NonZeroU32;
 
 /// Every word that begins an item.
-const ITEMS: [&str; 20] = [
+const ITEMS: [&str; 21] = [
     "whole",
     "float",
     "bool",
@@ -25,6 +26,7 @@ const ITEMS: [&str; 20] = [
     "aggregator",
     "node",
     "groups",
+    "owners",
     "releasable",
     "private",
     "nullable",
@@ -37,6 +39,7 @@ pub(super) struct Draft {
     sheet: Sheet,
     columns: Option<Option<i64>>,
     pub node: Option<i64>,
+    pub owners: Option<Rinks>,
     /// Items given so far, by what they set.
     given: Vec<&'static str>,
 }
@@ -57,7 +60,7 @@ pub(super) fn leaf(line: &mut Line) -> Result<Draft, Problem> {
     line.check_quotes()?;
     let data_type = data_type(line)?;
     let sheet = Sheet::new(data_type, Nature::Absent);
-    let mut draft = Draft { sheet, columns: None, node: None, given: Vec::new() };
+    let mut draft = Draft { sheet, columns: None, node: None, owners: None, given: Vec::new() };
     while line.peek(0).is_some() {
         line.sign(",", "`,` or the end of the line")?;
         item(line, &mut draft)?;
@@ -112,6 +115,7 @@ fn item(line: &mut Line, draft: &mut Draft) -> Result<(), Problem> {
         "aggregator" => sheet.aggregator = NonZeroU32::new(number(line, 1)?),
         "node" => draft.node = Some(whole(line, "a whole number")?),
         "groups" => sheet.groups = groups(line)?,
+        "owners" => draft.owners = Some(rinks(line)?),
         "releasable" => sheet.releasable = true,
         "private" => sheet.releasable = false,
         "nullable" => sheet.nullity = true,

@@ -37,6 +37,12 @@ fn begins(tokens: &[Token]) -> bool {
 }
 
 impl<'a> Line<'a> {
+    /// The tokens of a text that is no statement.
+    pub fn of(text: &'a str) -> Line<'a> {
+        let end = Token { kind: TokenKind::Sign, text: "", line: 1, column: text.chars().count() };
+        Line { tokens: tokens(text, 1), at: 0, end }
+    }
+
     fn goes_on(&self) -> bool {
         self.tokens.last().is_some_and(|token| token.text == ",")
     }
@@ -51,6 +57,11 @@ impl<'a> Line<'a> {
     /// The token `ahead` places on.
     pub fn peek(&self, ahead: usize) -> Option<Token<'a>> {
         self.tokens.get(self.at + ahead).copied()
+    }
+
+    /// Whether this word and a set stand anywhere in the statement.
+    pub fn has_set(&self, word: &str) -> bool {
+        self.tokens.windows(2).any(|pair| pair[0].text == word && pair[1].text == "{")
     }
 
     /// Takes a token.

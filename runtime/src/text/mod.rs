@@ -4,36 +4,29 @@
 
 mod items;
 mod line;
+mod named;
 mod problem;
 mod tokens;
 mod values;
 
+pub use named::NamedPlan;
 pub use problem::Problem;
+pub(crate) use problem::{nearest, quoted};
 
 use crate::component::Component;
 use crate::form::plan::NODES;
 use crate::plan::{Plan, Step};
+use crate::rinks::Rinks;
 use crate::sheet::Sheet;
 use line::Line;
-use problem::{nearest, quoted};
 use std::collections::HashMap;
 use tokens::{Token, TokenKind};
 
-/// A plan with the names of its nodes, as a text states it.
-#[derive(Clone, Debug)]
-pub struct NamedPlan {
-    /// The plan.
-    pub plan: Plan,
-    /// The leaves' sheets.
-    pub leaves: Vec<Sheet>,
-    /// Each node's name.
-    pub names: Vec<String>,
-    /// Each node's line in the text, from 1.
-    pub lines: Vec<usize>,
-}
-
 /// Longest text that is read, in bytes: far above what 32 nodes take.
 pub const LONGEST_TEXT: usize = 1 << 20;
+
+/// What is said of owners on a step.
+const STEP_OWNERS: &str = "a step has the owners of the leaves that it stands on; `owners {..}` is written on leaves";
 
 /// Problems that one text reports; what follows the first ones seldom helps.
 const MOST_PROBLEMS: usize = 20;
@@ -74,6 +67,22 @@ pub fn read(text: &str) -> Result<NamedPlan, Vec<Problem>> {
     reader.finish(&sources)
 }
 
+/// Reads a set of rinks as a leaf's owners are written.
+///
+/// ```
+/// use gate_runtime::{text, Rinks};
+/// assert_eq!(text::read_rinks("{3, 17}"), Ok(Rinks::of(&[3, 17]).unwrap()));
+/// assert_eq!(text::read_rinks("{}"), Ok(Rinks::NONE));
+/// let problem = text::read_rinks("{3, 64}").unwrap_err();
+/// assert_eq!(problem.to_string(), "1:5: expected a rink: a whole number from 0 to 63, found `64`");
+/// ```
+pub fn read_rinks(text: &str) -> Result<Rinks, Problem> {
+    let mut line = Line::of(text);
+    let rinks = values::rinks(&mut line)?;
+    line.end("nothing behind the set")?;
+    Ok(rinks)
+}
+
 /// A name's node, before leaves and steps are put in order.
 #[derive(Clone, Copy)]
 enum Place {
@@ -94,6 +103,7 @@ struct Reader<'a> {
     named: HashMap<&'a str, usize>,
     places: HashMap<&'a str, (Place, usize)>,
     leaves: Vec<Option<Sheet>>,
+    owners: Vec<Option<Rinks>>,
     leaf_names: Vec<(&'a str, usize)>,
     steps: Vec<Option<Draft>>,
     step_names: Vec<(&'a str, usize)>,
@@ -116,11 +126,13 @@ impl<'a> Reader<'a> {
         let node = self.leaves.len();
         // The name counts even if its items are wrong: one mistake is then one problem.
         self.leaves.push(None);
+        self.owners.push(None);
         self.leaf_names.push((name.text, name.line));
         self.declare(name, Place::Leaf(node))?;
-        let mut sheet = items::leaf(line)?;
-        sheet.node = sheet.node.or(Some(node as i64));
-        self.leaves[node] = Some(sheet.finish());
+        let mut leaf = items::leaf(line)?;
+        leaf.node = leaf.node.or(Some(node as i64));
+        self.owners[node] = leaf.owners;
+        self.leaves[node] = Some(leaf.finish());
         Ok(())
     }
 
@@ -130,7 +142,7 @@ impl<'a> Reader<'a> {
         let place = self.steps.len();
         self.steps.push(None);
         self.step_names.push((name.text, name.line));
-        let draft = self.draft(line);
+        let draft = self.draft(line).map_err(|problem| if line.has_set("owners") { problem.with_help(STEP_OWNERS) } else { problem });
         self.declare(name, Place::Step(place))?;
         self.steps[place] = Some(draft?);
         Ok(())
@@ -209,7 +221,7 @@ impl<'a> Reader<'a> {
         let step = |draft: &Draft| Step { component: draft.component, left: node(draft.left), right: node(draft.right) };
         let plan = Plan { leaves: leaves.len(), steps: steps.iter().map(step).collect() };
         let (names, lines) = self.leaf_names.into_iter().chain(self.step_names).map(|(name, line)| (name.to_string(), line)).unzip();
-        Ok(NamedPlan { plan, leaves, names, lines })
+        Ok(NamedPlan { plan, leaves, owners: self.owners, names, lines })
     }
 }
 

@@ -118,7 +118,7 @@ fn printable(c: char) -> char {
 }
 
 /// A token in quotes, cut if it is long.
-pub(super) fn quoted(text: &str) -> String {
+pub(crate) fn quoted(text: &str) -> String {
     let mut shown: String = text.chars().take(QUOTED).map(printable).collect();
     if text.chars().nth(QUOTED).is_some() {
         shown.push_str("...");
@@ -127,7 +127,7 @@ pub(super) fn quoted(text: &str) -> String {
 }
 
 /// "did you mean ..", if one of the words is near.
-pub(super) fn nearest<'a>(word: &str, words: impl Iterator<Item = &'a str>) -> Option<String> {
+pub(crate) fn nearest<'a>(word: &str, words: impl Iterator<Item = &'a str>) -> Option<String> {
     let near =
         words.map(|other| (distance(word, other), other)).filter(|(far, other)| *far <= 2 && *far * 2 <= other.chars().count()).min()?;
     Some(format!("did you mean `{}`?", near.1))

@@ -3,9 +3,11 @@
 use super::line::Line;
 use super::problem::Problem;
 use super::tokens::{Token, TokenKind};
+use crate::form::plan::RINKS;
 use crate::form::NARROW;
 use crate::nature::Ends;
 use crate::quotes::unescaped;
+use crate::rinks::Rinks;
 use crate::sheet::{Group, Key};
 
 /// Takes a token and reads it by `parse`.
@@ -163,4 +165,25 @@ pub(super) fn group(line: &mut Line) -> Result<Group, Problem> {
         _ => return Err(line.found("the index's kind: `int`, `bool` or `str`", Some(kind))),
     };
     Ok(Group { partition, key })
+}
+
+/// `{RINK, RINK, ..}`, each once.
+pub(super) fn rinks(line: &mut Line) -> Result<Rinks, Problem> {
+    if line.peek(0).is_none_or(|token| token.text != "{") {
+        let problem = line.found("a set of rinks in braces", line.peek(0));
+        return Err(problem.with_help("for instance {3, 17}, or {} for none"));
+    }
+    let expected = format!("a rink: a whole number from 0 to {}", RINKS - 1);
+    let mut set = Rinks::NONE;
+    list(line, |line| {
+        let token = line.peek(0);
+        let more = taken(line, &expected, |text| set.with(text.parse().ok()?))?;
+        if more == set {
+            let problem = line.found("a rink that is not given yet", token);
+            return Err(problem.with_help("each rink stands once in a set"));
+        }
+        set = more;
+        Ok(())
+    })?;
+    Ok(set)
 }

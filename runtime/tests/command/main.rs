@@ -3,6 +3,7 @@
 mod examples;
 mod fuzz;
 mod json_reader;
+mod owners;
 mod pictures;
 mod plans;
 mod texts;
