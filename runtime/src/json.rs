@@ -1,6 +1,6 @@
 //! Cards for machines.
 //!
-//! The document is one object with the list `plans`, one object for each file in the order given; the package's README describes its members.
+//! The document of cards is one object with the list `plans`, one object for each file in the order given; that of `gate show` is one object. The package's README describes their members.
 
 use crate::cards::{Card, Outcome, Stop, Walked};
 use crate::nature::{Bound, Nature};
@@ -9,6 +9,7 @@ use crate::rinks::Rinks;
 use crate::sheet::{Group, Key, Sheet};
 use crate::show;
 use crate::text::{NamedPlan, Problem};
+use crate::view::{self, View};
 
 /// A JSON value.
 #[derive(Clone, Debug, PartialEq)]
@@ -140,6 +141,24 @@ fn card(card: &Card) -> Json {
             members.push(("notes", Json::list(walked.notes(), Json::text)));
             members.push(("refusal", Json::optional(walked.stop(), |stop| refusal(&walked.plan, &stop))));
         }
+    }
+    Json::Object(members)
+}
+
+/// The document of one node for one reader.
+pub fn view(view: &View) -> Json {
+    let mut members = vec![("file", Json::text(&view.file)), ("outcome", Json::text(view.verdict()))];
+    match &view.outcome {
+        view::Outcome::Unusable(_, why) => members.push(("why", Json::text(why))),
+        view::Outcome::Asked(asked) => members.extend([
+            ("node", Json::whole(asked.wanted as u64)),
+            ("name", Json::optional(asked.plan.names.get(asked.wanted), Json::text)),
+            ("owners", rinks(asked.owners())),
+            ("reader", rinks(asked.reader)),
+            ("sheet", Json::optional(asked.reply.as_ref().ok(), sheet)),
+            ("notes", Json::list(asked.notes(), Json::text)),
+            ("refusal", Json::optional(asked.stop(), |stop| refusal(&asked.plan, &stop))),
+        ]),
     }
     Json::Object(members)
 }

@@ -29,6 +29,7 @@ pub mod quotes;
 pub mod show;
 pub mod svg;
 pub mod text;
+pub mod view;
 
 mod calls;
 mod component;

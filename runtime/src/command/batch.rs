@@ -71,8 +71,8 @@ fn card_of(file: &OsStr) -> Card {
     }
 }
 
-/// One byte above the limit is enough to see that a file is over it.
-fn bytes_of(file: &OsStr) -> io::Result<Vec<u8>> {
+/// What stands in a file, or in standard input if it is `-`. One byte above the limit is enough to see that it is over it.
+pub(super) fn bytes_of(file: &OsStr) -> io::Result<Vec<u8>> {
     let limit = LONGEST_TEXT as u64 + 1;
     let mut bytes = Vec::new();
     if file == "-" {

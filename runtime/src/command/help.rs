@@ -7,23 +7,26 @@ use crate::show::folded;
 const LINE: usize = 78;
 
 pub(super) const USAGE: &str = "usage: gate cards [--json] [--svg FILE] PLAN...
+       gate show [--json] --reader SET PLAN NODE
        gate explain [NUMBER]
-       gate help [cards | explain | format]
+       gate help [cards | show | explain | format]
        gate --version
 ";
 
 pub(super) const GENERAL: &str = "gate: the ranges of a plan, derived by proved code
 
 usage: gate cards [--json] [--svg FILE] PLAN...
+       gate show [--json] --reader SET PLAN NODE
        gate explain [NUMBER]
-       gate help [cards | explain | format]
+       gate help [cards | show | explain | format]
        gate --version
 
 cards     derive and print every node's range, or say why the plan is refused
+show      print one node's range, if the reader may see it
 explain   what a refusal's number means, and what can be done about it
 help      more on a command; `gate help format` shows how to write a plan
 
-Exit codes: 0 accepted, 1 refused, 2 wrong use or a malformed file.
+Exit codes: 0 accepted or shown, 1 refused, 2 wrong use or a malformed file.
 ";
 
 pub(super) const CARDS: &str = "usage: gate cards [--json] [--svg FILE] PLAN...
@@ -41,13 +44,34 @@ its operands caused it. A malformed file is named with line and column.
   --json      one JSON document for all plans
   --svg FILE  also draw the plan into FILE (one plan only)
 
-Several plans are walked in parallel and printed in the order given.
+Several plans are walked in parallel and printed in the order given. Every node
+is printed, whoever owns it; `gate show` asks whether a reader may see a node.
 Exit codes: 0 all accepted, 1 one refused, 2 wrong use or a malformed file.
+";
+
+pub(super) const SHOW: &str = "usage: gate show [--json] --reader SET PLAN NODE
+
+Shows one node of a plan, given by its name or its number, to a reader with a
+set of rinks: if all owners of the node lie in the reader's set, or if it has
+five owners or more. The owners of a leaf are those that the plan gives it
+(`gate help format`), those of a step the owners of all leaves that it stands
+on. A node without owners is shown to everybody.
+
+  --reader SET  the reader's rinks, 0 to 63: '{3, 17}', or '{}' for none
+  --json        one JSON document
+
+Only the node and what it stands on is walked. What is printed is made of the
+node's own sheet and of the plan's steps, names and owners, never of another
+sheet. So a refusal other than 30 says its number, its node and what the number
+means, and not which values caused it; and a malformed file is only said to be
+one. `gate cards` says the rest, to those who may see every leaf.
+
+Exit codes: 0 shown, 1 refused, 2 wrong use, no such name or a malformed file.
 ";
 
 pub(super) const EXPLAIN: &str = "usage: gate explain [NUMBER]
 
-Says what a refusal's number (1 to 29) means and what can be done about it.
+Says what a refusal's number (1 to 30) means and what can be done about it.
 Without a number it lists all of them.
 ";
 
@@ -76,6 +100,8 @@ leaf NAME : TYPE, ITEM, ...       TYPE is int, float, bool, str or unknown
   stability N                     c-stability, default 1
   aggregator N                    default: none
   groups {7: int 3, 8: bool true, 9: str 12}       default: none
+  owners {3, 17}                  rinks, 0 to 63, that own it; default: none,
+                                  and `gate show` then shows it to everybody
   node N                          default: the leaf's own number
   releasable, nullable, nonempty, ordered          default: none of them
 

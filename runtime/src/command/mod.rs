@@ -2,6 +2,7 @@
 
 mod batch;
 mod help;
+mod show;
 
 use crate::cards::{Card, Outcome};
 use crate::refusal::Refusal;
@@ -10,9 +11,9 @@ use std::ffi::{OsStr, OsString};
 use std::fs;
 use std::io::{ErrorKind, Write};
 
-/// Exit code: every plan was accepted, or what was asked for was given.
+/// Exit code: every plan was accepted, the node was shown, or what was asked for was given.
 pub const ACCEPTED: u8 = 0;
-/// Exit code: a plan was refused, and no file was malformed.
+/// Exit code: a plan was refused, or a node, and no file was malformed.
 pub const REFUSED: u8 = 1;
 /// Exit code: the command was used wrongly, or a file is malformed or cannot be read.
 pub const UNUSABLE: u8 = 2;
@@ -70,6 +71,7 @@ fn reply_to(arguments: &[OsString]) -> Reply {
     }
     match first.to_string_lossy().as_ref() {
         "cards" => cards(rest),
+        "show" => show::show(rest),
         "explain" => explain(rest),
         "help" => help_on(rest),
         "--help" | "-h" => help_on(&[]),
@@ -84,6 +86,7 @@ fn help_on(topics: &[OsString]) -> Reply {
     };
     match topic.to_string_lossy().as_ref() {
         "cards" => Reply::good(help::CARDS),
+        "show" => Reply::good(help::SHOW),
         "explain" => Reply::good(help::EXPLAIN),
         "format" => Reply::good(help::FORMAT),
         "help" | "--help" | "-h" | "--version" | "-V" => Reply::good(help::GENERAL),

@@ -2,7 +2,8 @@
 
 use crate::{example_names, json_reader, root, unseen, xml_reader};
 use gate_runtime::cards::{Card, Outcome};
-use gate_runtime::{command, json, svg};
+use gate_runtime::view::{self, View};
+use gate_runtime::{command, json, svg, Rinks};
 use std::ffi::OsString;
 use std::fs;
 
@@ -10,7 +11,7 @@ use std::fs;
 const RUNS: usize = 12_000;
 
 /// What mutations put in.
-const WORDS: [&str; 53] = [
+const WORDS: [&str; 56] = [
     "leaf",
     "=",
     ":",
@@ -52,6 +53,9 @@ const WORDS: [&str; 53] = [
     "dataset 1",
     "releasable",
     "groups {1: int 1}",
+    "owners",
+    "owners {3, 17}",
+    ", owners {0, 63}",
     "aggregator 3",
     "sample 0.5",
     "abs",
@@ -67,7 +71,8 @@ const WORDS: [&str; 53] = [
 ];
 
 /// Every item and component at once.
-const EVERYTHING: &str = "leaf a : int, whole [1, 5] [-3, ..], rows 1, dataset 3, dimensions 2, sample 1, stability 2, node 7, releasable
+const EVERYTHING: &str =
+    "leaf a : int, whole [1, 5] [-3, ..], rows 1, dataset 3, dimensions 2, sample 1, stability 2, node 7, releasable, owners {3, 17}
 leaf b : int, whole [2, 2], rows 1, releasable, nullable, nonempty, ordered, groups {7: int 3, 8: bool true, 9: str 1}
 leaf c : int, whole {1, 2, 3} {4}, columns 2, rows 1, releasable
 leaf d : float, float {0.5, nan}, rows 1, releasable
@@ -146,7 +151,32 @@ fn check(bytes: &[u8]) -> u8 {
         let causes = walked.stop().map_or(Vec::new(), |stop| stop.causes);
         assert!(causes.iter().all(|cause| cause != gate_runtime::causes::NO_CAUSE), "{out}");
     }
+    ["0", "7", "a", "n3"].iter().for_each(|node| check_view(bytes, node, &card));
     code
+}
+
+/// A reader of rink 3 sees what the card shows, or nothing of it.
+fn check_view(bytes: &[u8], node: &str, card: &Card) {
+    let view = View::of("fuzz.plan", bytes, Rinks::from_bits(1 << 3), node);
+    let (out, err) = view.render();
+    assert_eq!((out.is_empty(), err.is_empty()), (view.exit_code() == 2, view.exit_code() != 2));
+    let document = json::view(&view).write();
+    assert_eq!([&out, &err, &document].map(|text| unseen(text)), [None; 3], "a character that cannot be seen");
+    json_reader::read(&document).expect("JSON that can be read");
+    let (view::Outcome::Asked(asked), Outcome::Walked(walked)) = (&view.outcome, &card.outcome) else {
+        assert!(view.exit_code() == 2 && (card.exit_code() == 2 || walked_without(card, node)), "{node}: {err}");
+        return;
+    };
+    assert!(asked.plan.leaves.is_empty(), "a view holds no leaf's sheet");
+    if walked.walk.outcome.is_ok() && asked.wanted < walked.nodes() {
+        let seen = asked.owners().outside(asked.reader).is_empty() || asked.owners().count() >= 5;
+        assert_eq!(asked.reply.as_ref().ok(), walked.sheet(asked.wanted).filter(|_| seen));
+    }
+}
+
+/// A plan that has no node of this name.
+fn walked_without(card: &Card, node: &str) -> bool {
+    matches!(&card.outcome, Outcome::Walked(walked) if !walked.plan.names.iter().any(|name| name == node))
 }
 
 #[test]
@@ -223,8 +253,14 @@ fn random_bytes_never_panic() {
 fn any_arguments_never_panic() {
     let words = [
         "cards",
+        "show",
         "explain",
         "help",
+        "--reader",
+        "--reader={}",
+        "{3,",
+        "17}",
+        "{}",
         "--json",
         "--help",
         "--version",
@@ -242,7 +278,7 @@ fn any_arguments_never_panic() {
     ];
     let mut draws = Draws(6);
     for _ in 0..4_000 {
-        let count = draws.below(5);
+        let count = draws.below(7);
         let arguments: Vec<OsString> = (0..count).map(|_| OsString::from(words[draws.below(words.len())])).collect();
         // A picture is written only for a plan, and none of these words names one.
         let (mut out, mut err) = (Vec::new(), Vec::new());

@@ -1,4 +1,4 @@
-//! The command `gate`: its examples, its texts, its JSON and pictures, and any input at all.
+//! The command `gate`: its examples, its texts, its JSON and pictures, what a reader may see, and any input at all.
 
 mod examples;
 mod fuzz;
@@ -6,6 +6,7 @@ mod json_reader;
 mod owners;
 mod pictures;
 mod plans;
+mod readers;
 mod texts;
 mod usage;
 mod xml_reader;

@@ -13,8 +13,24 @@ fn wrong_use_is_2_and_says_where_help_is() {
         (&["cards", "--frob", "x"], "no option `--frob`"),
         (&["cards", "--svg"], "--svg needs a file to write"),
         (&["cards", "--svg", "x.svg", "a", "b"], "--svg draws one plan"),
+        (&["show", "x", "y"], "show needs --reader and a set of rinks such as '{3, 17}'"),
+        (&["show", "x", "y", "--reader"], "--reader needs a set of rinks such as '{3, 17}'"),
+        (&["show", "--reader", "{}"], "show takes a plan's file and one node"),
+        (&["show", "--reader", "{}", "x"], "show takes a plan's file and one node"),
+        (&["show", "--reader", "{}", "x", "y", "z"], "show takes a plan's file and one node"),
+        (&["show", "--reader", "{}", "--frob", "x", "y"], "no option `--frob`"),
+        (&["show", "--reader", "{}", "--reader", "{}", "x", "y"], "--reader is given twice"),
+        (&["show", "--reader", "{64}", "x", "y"], "--reader: expected a rink: a whole number from 0 to 63, found `64`"),
+        (&["show", "--reader", "{3,", "3}", "x", "y"], "--reader: expected a rink that is not given yet, found `3`"),
+        (&["show", "--reader", "{3,", "x", "y"], "--reader: expected a rink: a whole number from 0 to 63, found `x`"),
+        (&["show", "--reader", "{3}4", "x", "y"], "--reader: expected nothing behind the set, found `4`"),
+        // What a shell makes of {3,17} without quotes.
+        (
+            &["show", "--reader", "3", "17", "x", "y"],
+            "--reader: expected a set of rinks in braces, found `3`; in a shell write '{3,17}' with its quotes",
+        ),
         (&["explain", "0"], "no refusal `0`"),
-        (&["explain", "30"], "no refusal `30`, they are 1 to 29"),
+        (&["explain", "31"], "no refusal `31`, they are 1 to 30"),
         (&["explain", "x"], "no refusal `x`"),
         (&["explain", "1", "2"], "explain takes one number"),
         (&["help", "frob"], "no help on `frob`"),
@@ -33,6 +49,8 @@ fn help_and_version_are_given() {
         (&["help"], "gate: the ranges of a plan"),
         (&["help", "cards"], "usage: gate cards"),
         (&["cards", "--help"], "usage: gate cards"),
+        (&["help", "show"], "usage: gate show"),
+        (&["show", "--help"], "usage: gate show"),
         (&["explain", "-h"], "usage: gate explain"),
         (&["help", "format"], "A plan is a text."),
         (&["--version"], concat!("gate ", env!("CARGO_PKG_VERSION"), "\n")),
@@ -55,7 +73,7 @@ fn the_format_help_shows_a_plan_and_every_item() {
     assert!(run.out.contains("subtract brine_in brine_out  int   [-17, +12]"), "{}", run.out);
     let readme = fs::read_to_string(root().join("runtime/README.md")).unwrap();
     let words = "leaf int float bool str unknown whole text range categories columns rows dataset dimensions sample stability aggregator \
-                 node groups releasable private nullable nonempty ordered abs add subtract multiply divide modulo log power negative \
+                 node groups owners releasable private nullable nonempty ordered abs add subtract multiply divide modulo log power negative \
                  pool";
     for word in words.split(' ') {
         assert!(word == "private" || text.contains(word), "help: {word}");
@@ -63,12 +81,23 @@ fn the_format_help_shows_a_plan_and_every_item() {
     }
 }
 
+/// What a person has to know before owners are left out, or a reader is shown something.
+#[test]
+fn the_help_says_who_sees_what() {
+    let flat = |topic| gate(&["help", topic]).out.split_whitespace().collect::<Vec<&str>>().join(" ");
+    assert!(flat("show").contains("A node without owners is shown to everybody."));
+    assert!(flat("show")
+        .contains("a refusal other than 30 says its number, its node and what the number means, and not which values caused it"));
+    assert!(flat("format").contains("rinks, 0 to 63, that own it; default: none, and `gate show` then shows it to everybody"));
+    assert!(flat("cards").contains("Every node is printed, whoever owns it"));
+}
+
 #[test]
 fn every_number_is_explained() {
     let all = gate(&["explain"]);
-    assert_eq!((all.code, all.out.lines().count()), (Some(0), 29));
-    assert!(gate(&["help", "explain"]).out.contains("(1 to 29)"));
-    for (number, line) in (1..=29).zip(all.out.lines()) {
+    assert_eq!((all.code, all.out.lines().count()), (Some(0), 30));
+    assert!(gate(&["help", "explain"]).out.contains("(1 to 30)"));
+    for (number, line) in (1..=30).zip(all.out.lines()) {
         let one = gate(&["explain", &number.to_string()]);
         assert_eq!(one.code, Some(0));
         let sentence = line.trim_start().split_once("  ").expect("a number and a sentence").1;
