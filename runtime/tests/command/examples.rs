@@ -23,18 +23,42 @@ fn both(run: &Run) -> String {
     format!("{}{}", run.out, run.err)
 }
 
+fn plan_of(name: &str) -> String {
+    fs::read_to_string(root().join(format!("examples/{name}.plan"))).expect("an example's plan")
+}
+
+/// The commands of an example: its cards, and those that stand in comments of its plan.
+fn commands(name: &str) -> Vec<String> {
+    let plan = plan_of(name);
+    let shows = plan.lines().filter_map(|line| line.strip_prefix("# gate ")).filter(|command| command.starts_with("show "));
+    [format!("cards examples/{name}.plan")].into_iter().chain(shows.map(str::to_string)).collect()
+}
+
+/// A command as a shell would cut it.
+fn run(command: &str) -> Run {
+    gate(&command.split(' ').collect::<Vec<&str>>())
+}
+
 #[test]
 fn stored_outputs_are_real() {
     let names = example_names();
     assert!(names.len() >= 6);
     let mut codes = Vec::new();
     for name in &names {
-        let run = gate(&["cards", &format!("examples/{name}.plan")]);
-        let code = run.code.expect("the command ended by itself");
-        hold(root().join("examples").join(format!("{name}.out")), &format!("{}\nexit code {code}\n", both(&run)));
-        codes.push(code);
+        let mut stored = String::new();
+        for command in commands(name) {
+            let run = run(&command);
+            let code = run.code.expect("the command ended by itself");
+            // The cards come first, and what follows them says what was run.
+            let begin = if stored.is_empty() { String::new() } else { format!("\n$ gate {command}\n") };
+            stored.push_str(&format!("{begin}{}\nexit code {code}\n", both(&run)));
+            codes.push((command.split(' ').next().unwrap_or("").to_string(), code));
+        }
+        hold(root().join("examples").join(format!("{name}.out")), &stored);
     }
-    assert!([0, 1, 2].iter().all(|code| codes.contains(code)), "every kind of ending has an example: {codes:?}");
+    for (command, code) in [("cards", 0), ("cards", 1), ("cards", 2), ("show", 0), ("show", 1)] {
+        assert!(codes.contains(&(command.to_string(), code)), "{command} with exit code {code} has an example: {codes:?}");
+    }
 }
 
 #[test]
@@ -51,11 +75,9 @@ fn the_stored_picture_is_real() {
 /// A README's text between fences, as it should be: the output of a command, or an example's plan if the line before names one.
 fn real_block(before: &str, block: &str) -> Option<String> {
     if let Some(command) = block.lines().next().and_then(|line| line.strip_prefix("$ gate ")) {
-        let words: Vec<&str> = command.split(' ').collect();
-        return Some(format!("$ gate {command}\n{}", both(&gate(&words))));
+        return Some(format!("$ gate {command}\n{}", both(&run(command))));
     }
-    let name = before.strip_prefix("`examples/")?.strip_suffix(".plan`:")?;
-    Some(fs::read_to_string(root().join(format!("examples/{name}.plan"))).expect("the README names an example"))
+    Some(plan_of(before.strip_prefix("`examples/")?.strip_suffix(".plan`:")?))
 }
 
 /// The README with every block as it should be, and what the blocks show.
@@ -82,9 +104,10 @@ fn the_readme_shows_real_outputs_of_all_examples() {
     let (text, shown) = real_readme(&readme);
     hold(path, &text);
     for name in example_names() {
-        let plan = fs::read_to_string(root().join(format!("examples/{name}.plan"))).unwrap();
-        assert!(shown.contains(&plan), "the README shows the plan of {name}");
-        let command = format!("$ gate cards examples/{name}.plan\n");
-        assert!(shown.iter().any(|block| block.starts_with(&command)), "the README shows the output of {name}");
+        assert!(shown.contains(&plan_of(&name)), "the README shows the plan of {name}");
+        for command in commands(&name) {
+            let begin = format!("$ gate {command}\n");
+            assert!(shown.iter().any(|block| block.starts_with(&begin)), "the README shows the output of {command}");
+        }
     }
 }
