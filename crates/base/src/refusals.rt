@@ -83,3 +83,6 @@ pub const TOO_MUCH_TEXT: u32 = 28;
 
 // The number of category lists is neither one nor the output's column count.
 pub const LIST_COUNT: u32 = 29;
+
+// The reader may not see the node.
+pub const NOT_SEEN: u32 = 30;

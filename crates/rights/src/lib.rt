@@ -18,9 +18,6 @@ const OWNER_BYTES: usize = 8;
 // As many owners as show a node to everybody.
 const FEWEST_SHOWN: u32 = 5;
 
-// The reader may not see the node.
-const NOT_SEEN: u32 = 30;
-
 // The owner sets of the leaves, each in its place.
 fn leaf_sets(plan: &[u8], owners: &[u8], sets: &mut [u64])
     requires { ⌜ (planFails (now plan) ≡ false) × (length (now owners) ≡ ownerBytes * leafCount (now plan)) × (nodeLimit ≤ length (now sets)) ⌝ }
@@ -76,7 +73,7 @@ pub fn admitted(plan: &[u8], owners: &[u8], reader: u64, wanted: usize, work: &[
         return Walked::Refused(refusals::NO_ROOM, plan_leaves::NO_NODE);
     }
     if !seen(owners_of(plan, owners, wanted), reader) {
-        return Walked::Refused(NOT_SEEN, wanted);
+        return Walked::Refused(refusals::NOT_SEEN, wanted);
     }
     Walked::Next(wanted)
 }
