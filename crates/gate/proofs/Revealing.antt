@@ -5,18 +5,16 @@
 --     sheet-shown                        the sheet, or 27
 --     all-clauses                        what follows of the whole answer
 -- Assumes nothing.
-use mathlib.Core.Path.{_≡_, refl, sym, ap, subst, _∙_}
-use mathlib.Core.Bool.{false}
+use mathlib.Core.Path.{_≡_, sym, ap, subst, _∙_}
 use mathlib.Core.List.{List, [], _∷_}
 use mathlib.Core.Logic.{⊎-elim}
 use Prim.Native.Nat.{ℕ, _<_}
 use native.Mathlib.Omega.{arith}
-use lib.Dec.{eqb}
 use borrow.Author.Tests.{ne-eqb}
 use types.Run.{OneOf}
 use denote.Enum.Declared.{tagOf}
 use Rattle.bytes.proofs.Reread.{AllBytes}
-use Rattle.sets.specs.Sets.{inSet, chosen}
+use Rattle.sets.specs.Sets.{inSet}
 use Rattle.sets.proofs.SetLaws.{chosen-same}
 use Rattle.base.specs.Form.{narrow}
 use Rattle.plan_form.specs.Form.{leafCount}
@@ -26,7 +24,7 @@ use Rattle.plan_leaves.specs.Code.{nodesFrom, walked, unlessStopped, Leaves, Le
 use Rattle.plan_leaves.proofs.Walked
 use Rattle.plan_leaves.specs.declared.Walked.{Walked}
 use Rattle.plan_leaves.specs.declared.Walked.the-variants as W
-use Rattle.standing.specs.Standing.{stands, walkedLeaves, walkedSteps}
+use Rattle.standing.specs.Standing.{stands, walkedSteps}
 use Rattle.walks.proofs.Ending.{NoNext, no-next}
 use Rattle.rights.specs.Reveal.{Revealed, revealed, showing, shownOf, walkedTo, reveal}
 use Rattle.rights.specs.Code.{Permitted, Admitted}

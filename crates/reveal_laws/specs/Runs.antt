@@ -8,7 +8,6 @@ use lib.ListN.{length, take, drop}
 use Rattle.bytes.specs.Deliver.{delivered}
 use Rattle.base.specs.Form.{Form, longest}
 use Rattle.plan_form.specs.Form.{nodeCount, leafCount}
-use Rattle.calls.specs.Single.{Outcome}
 use Rattle.calls.specs.Walk.{slotAt, sheetIn, plan}
 use Rattle.standing.specs.Standing.{stands}
 use Rattle.rights.specs.Reveal.{Revealed, revealed, reveal}

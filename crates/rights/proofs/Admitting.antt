@@ -2,7 +2,7 @@
 --     call-passed                                               1 has passed
 --     reveal-fails, reveal-short, reveal-unseen, reveal-seen    1, 27, 30, or what was walked is shown
 -- Assumes nothing.
-use mathlib.Core.Path.{_≡_, refl, sym, subst, _∙_}
+use mathlib.Core.Path.{_≡_, refl, subst}
 use mathlib.Core.Bool.{Bool, true, false, not, _||_}
 use mathlib.Core.List.{List}
 use Prim.Native.Nat.{ℕ, _*_, _≤_, _<_}

@@ -6,9 +6,6 @@ ghost use Rattle.sets.specs.Sets.{inSet};
 // Every number below 64.
 pub const FULL: u64 = 18446744073709551615;
 
-// How many numbers a set may have.
-pub const SIZE: usize = 64;
-
 // Whether k is in a set.
 pub fn has(set: u64, k: usize) -> bool
     requires { ⌜ k < 64 ⌝ }

@@ -1,6 +1,5 @@
 -- `rights::leaf_sets` meets its contract. The loop's invariant: the sets of the leaves before k are in place. Assumes nothing.
-use Prim.Native.Nat.{ℕ, _-_, _≤_, _<_}
-use mathlib.Core.List.{List}
+use Prim.Native.Nat.{_-_, _≤_, _<_}
 use native.Mathlib.Omega.{arith}
 use lib.ListN.{length}
 use denote.Ref.{now}
