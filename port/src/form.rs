@@ -7,6 +7,8 @@ pub const MOST_COLUMNS: i64 = 16;
 pub const MOST_NODES: usize = 32;
 /// Bytes of a sheet's text area.
 pub const MOST_TEXT: usize = 1024;
+/// With so many owners a node is shown to everybody.
+pub const ENOUGH_OWNERS: u32 = 5;
 
 /// Sizes of the sheet's parts.
 pub const HEAD: usize = 80;

@@ -1,5 +1,5 @@
-//! The two calls of document 01, with document 02's S-1, S-2, S-4, S-5 and S-6, in
-//! plain safe Rust on the bytes.
+//! The two calls of document 01, with document 02's S-1, S-2, S-4, S-5 and S-6, and
+//! the one that its S-7 adds, in plain safe Rust on the bytes.
 //!
 //! It shares no code with the proved crates or the oracle, so that each can be
 //! held against the other two.
@@ -10,6 +10,7 @@ mod categories;
 mod ends;
 pub mod form;
 mod plan;
+mod reveal;
 mod shape;
 mod sheet;
 mod single;
@@ -33,6 +34,22 @@ pub fn propagate_property(
 pub fn propagate_properties(plan: &[u8], work: &mut [u8]) -> (u32, u32) {
     match plan::walk(plan, work) {
         Ok(nodes) => (0, nodes),
+        Err(refusal) => refusal,
+    }
+}
+
+/// The code and the length of the wanted node's sheet in `out`, or a refusal and its node.
+/// `owners` has eight bytes for each leaf; a bit for each rink, as in `reader`.
+pub fn reveal_node(
+    plan: &[u8],
+    owners: &[u8],
+    reader: u64,
+    wanted: u32,
+    work: &mut [u8],
+    out: &mut [u8],
+) -> (u32, u32) {
+    match reveal::reveal(plan, owners, reader, wanted, work, out) {
+        Ok(length) => (0, length),
         Err(refusal) => refusal,
     }
 }

@@ -6,21 +6,21 @@ use crate::single::derive;
 
 /// A well-formed plan.
 #[derive(Clone, Copy)]
-struct Plan<'a> {
-    nodes: usize,
-    leaves: usize,
+pub struct Plan<'a> {
+    pub nodes: usize,
+    pub leaves: usize,
     components: &'a [u8],
     operands: &'a [u8],
 }
 
-struct Step {
+pub struct Step {
     component: u32,
-    left: usize,
-    right: usize,
+    pub left: usize,
+    pub right: usize,
 }
 
 impl<'a> Plan<'a> {
-    fn read(bytes: &'a [u8]) -> Option<Plan<'a>> {
+    pub fn read(bytes: &'a [u8]) -> Option<Plan<'a>> {
         if bytes.len() < 4 {
             return None;
         }
@@ -49,7 +49,7 @@ impl<'a> Plan<'a> {
         (leaves..nodes).all(permitted).then_some(plan)
     }
 
-    fn step(&self, node: usize) -> Step {
+    pub fn step(&self, node: usize) -> Step {
         let at = 4 * (node - self.leaves);
         let operands = word32(self.operands, at);
         Step {
@@ -60,7 +60,7 @@ impl<'a> Plan<'a> {
     }
 }
 
-fn slot(work: &[u8], node: usize) -> &[u8] {
+pub fn slot(work: &[u8], node: usize) -> &[u8] {
     &work[SLOT * node..SLOT * (node + 1)]
 }
 
@@ -71,17 +71,27 @@ pub fn walk(plan: &[u8], work: &mut [u8]) -> Result<u32, (Refusal, u32)> {
         return Err((27, NO_NODE));
     }
     for leaf in 0..plan.leaves {
-        let checked = in_slot(slot(work, leaf)).and_then(Sheet::read);
-        checked.map_err(|code| (code, leaf as u32))?;
+        check(leaf, work)?;
     }
     for node in plan.leaves..plan.nodes {
-        step(&plan, node, work).map_err(|code| (code, node as u32))?;
+        step(&plan, node, work)?;
     }
     Ok(plan.nodes as u32)
 }
 
+/// Checks 3 to 5 of a leaf.
+pub fn check(leaf: usize, work: &[u8]) -> Result<(), (Refusal, u32)> {
+    let checked = in_slot(slot(work, leaf)).and_then(Sheet::read);
+    checked.map(drop).map_err(|code| (code, leaf as u32))
+}
+
 /// Reads earlier slots and writes its own alone.
-fn step(plan: &Plan, node: usize, work: &mut [u8]) -> Result<usize, Refusal> {
+pub fn step(plan: &Plan, node: usize, work: &mut [u8]) -> Result<(), (Refusal, u32)> {
+    let derived = derive_in(plan, node, work);
+    derived.map(drop).map_err(|code| (code, node as u32))
+}
+
+fn derive_in(plan: &Plan, node: usize, work: &mut [u8]) -> Result<usize, Refusal> {
     let Step {
         component,
         left,
