@@ -4,6 +4,8 @@ mod counted;
 mod made;
 mod mapped;
 mod pool;
+mod reveal;
+mod reveal_models;
 mod shelf;
 mod sign;
 mod subtract;
@@ -12,5 +14,5 @@ mod walked;
 
 /// Who answers.
 mod answering {
-    pub use plain_port::{propagate_properties, propagate_property};
+    pub use plain_port::{propagate_properties, propagate_property, reveal_node};
 }
