@@ -4,7 +4,7 @@ use std::path::{Path, PathBuf};
 use std::process::Command;
 use std::{env, process};
 
-const ENTRIES: [&str; 2] = ["propagate_property", "propagate_properties"];
+const ENTRIES: [&str; 3] = ["propagate_property", "propagate_properties", "reveal_node"];
 
 fn main() {
     println!("cargo:rerun-if-env-changed=GATE_LIB_DIR");

@@ -71,6 +71,51 @@ macro_rules! library {
 
 library!("propagate_property", "propagate_properties");
 
+extern "C" {
+    #[link_name = "reveal_node"]
+    fn foreign_reveal_node(
+        plan: *const u8,
+        plan_len: usize,
+        owners: *const u8,
+        owners_len: usize,
+        reader: u64,
+        wanted: u32,
+        work: *mut u8,
+        work_len: usize,
+        out: *mut u8,
+        out_len: usize,
+    ) -> u64;
+}
+
+/// The code, and the length of the sheet shown or the node. No earlier library that
+/// is timed needs it.
+pub fn reveal_node(
+    plan: &[u8],
+    owners: &[u8],
+    reader: u64,
+    wanted: u32,
+    work: &mut [u8],
+    out: &mut [u8],
+) -> (u32, u32) {
+    // Safety: each pair of pointer and length is a live slice, and `work` and `out`
+    // are borrowed apart from each other and from the rest.
+    let reply = unsafe {
+        foreign_reveal_node(
+            plan.as_ptr(),
+            plan.len(),
+            owners.as_ptr(),
+            owners.len(),
+            reader,
+            wanted,
+            work.as_mut_ptr(),
+            work.len(),
+            out.as_mut_ptr(),
+            out.len(),
+        )
+    };
+    halves(reply)
+}
+
 /// The library that `GATE_LIB_BEFORE` named.
 #[cfg(before)]
 pub mod before {

@@ -8,6 +8,10 @@ mod made;
 mod mapped;
 #[path = "../../port/tests/examples/pool.rs"]
 mod pool;
+#[path = "../../port/tests/examples/reveal.rs"]
+mod reveal;
+#[path = "../../port/tests/examples/reveal_models.rs"]
+mod reveal_models;
 #[path = "../../port/tests/examples/shelf.rs"]
 mod shelf;
 #[path = "../../port/tests/examples/sign.rs"]
@@ -21,5 +25,5 @@ mod walked;
 
 /// Who answers.
 mod answering {
-    pub use comparison::proved::{propagate_properties, propagate_property};
+    pub use comparison::proved::{propagate_properties, propagate_property, reveal_node};
 }
