@@ -30,6 +30,32 @@ pub struct Expected {
     pub bytes: Vec<u8>,
 }
 
+/// A buffer as it is lent: a margin on both sides.
+#[derive(Clone)]
+pub struct Lent(Vec<u8>);
+
+impl Lent {
+    pub fn new(bytes: &[u8]) -> Lent {
+        let margin = [FILLER; MARGIN];
+        Lent([&margin, bytes, &margin].concat())
+    }
+
+    pub fn bytes(&self) -> &[u8] {
+        &self.0[MARGIN..self.0.len() - MARGIN]
+    }
+
+    pub fn bytes_mut(&mut self) -> &mut [u8] {
+        let end = self.0.len() - MARGIN;
+        &mut self.0[MARGIN..end]
+    }
+
+    /// Whether both margins are as they were.
+    pub fn is_kept(&self) -> bool {
+        let (before, behind) = (&self.0[..MARGIN], &self.0[self.0.len() - MARGIN..]);
+        before == [FILLER; MARGIN] && behind == [FILLER; MARGIN]
+    }
+}
+
 /// Buffers used again from call to call.
 #[derive(Default)]
 pub struct Guard {

@@ -9,6 +9,7 @@ pub mod guard;
 pub mod judge;
 pub mod plans;
 pub mod proved;
+pub mod reveals;
 pub mod stored;
 pub mod tally;
 

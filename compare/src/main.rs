@@ -1,7 +1,7 @@
 //! Comparisons at scale; exit 1 on a difference, 2 on a bad command.
 
 use comparison::tally::Tally;
-use comparison::{calls, contained, plans, stored};
+use comparison::{calls, contained, plans, reveals, stored};
 use std::process::exit;
 
 const HELP: &str = "\
@@ -11,6 +11,8 @@ compare bad [--seed S]             any bytes in any argument, overlapping operan
 compare plans --seed S --count N   generated plans: plan calls against the oracle, step by step (Pool, texts that are no UTF-8 and range Subtracts: the port)
 compare store-plans --seed S       writes the stored list of plans to standard output
 compare list-plans FILE            a stored list of plans, replayed by the plan calls
+compare reveals --seed S --count N one node's sheet for a reader: generated runs against the oracle walked, each with two
+                                   runs over other buffers, and beside the plan call
 compare contained --seed S --count N
                                    demand 3 on accepted plans: exact results of rows keep to the sheets,
                                    whichever side each Pool step takes
@@ -41,7 +43,7 @@ fn run(words: &[&str]) -> Result<usize, String> {
             let [seed, count] = numbers(options, many)?;
             Ok(report(calls::generated(seed, count as usize)))
         }
-        ["list", file] => replayed(file, calls::stored),
+        ["list", file] => replayed(file, calls::stored).map(report),
         ["bad", options @ ..] => {
             let [seed] = numbers(options, [("--seed", Some(1))])?;
             Ok(report(calls::bad(seed)))
@@ -55,7 +57,11 @@ fn run(words: &[&str]) -> Result<usize, String> {
             print!("{}", stored::made(seed));
             Ok(0)
         }
-        ["list-plans", file] => replayed(file, stored::replay),
+        ["list-plans", file] => replayed(file, stored::replay).map(report),
+        ["reveals", options @ ..] => {
+            let [seed, count] = numbers(options, many)?;
+            Ok(report_reveals(reveals::generated(seed, count as usize)))
+        }
         ["contained", options @ ..] => {
             let [seed, count] = numbers(options, many)?;
             let counts = contained::generated(seed, count as usize);
@@ -69,15 +75,19 @@ fn run(words: &[&str]) -> Result<usize, String> {
     }
 }
 
-fn replayed(file: &str, replay: fn(&str) -> Result<Tally, String>) -> Result<usize, String> {
+fn replayed<T>(file: &str, replay: fn(&str) -> Result<T, String>) -> Result<T, String> {
     let text = std::fs::read_to_string(file).map_err(|error| format!("{file}: {error}"))?;
-    let tally = replay(&text).map_err(|fault| format!("{file}: {fault}"))?;
-    Ok(report(tally))
+    replay(&text).map_err(|fault| format!("{file}: {fault}"))
 }
 
 fn report(tally: Tally) -> usize {
     println!("{tally}");
     tally.differences
+}
+
+fn report_reveals(counts: reveals::Counts) -> usize {
+    println!("{counts}");
+    counts.tally.differences
 }
 
 /// Named numbers in any order; without a default each has to be there.

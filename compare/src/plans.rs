@@ -382,8 +382,8 @@ pub fn malform(random: &mut Random, draft: &Draft) -> Vec<u8> {
     plan
 }
 
-/// The sheet at the start of a slot, by the sizes in its bytes.
-fn leaf_sheet(slot: &[u8]) -> Result<&[u8], u32> {
+/// The sheet at the start of a slot, by the sizes in its bytes; 3 if one is over its limit.
+pub fn sheet_in(slot: &[u8]) -> Result<&[u8], u32> {
     let size = |at: usize| slot[at] as usize + 256 * slot[at + 1] as usize;
     let (groups, lists, categories, text) = (size(0), size(2), size(4), size(26));
     if groups > MOST_GROUPS
@@ -397,7 +397,12 @@ fn leaf_sheet(slot: &[u8]) -> Result<&[u8], u32> {
         1 | 2 => 18 * lists,
         _ => 9 * categories,
     };
-    let sheet = &slot[..HEAD + 13 * groups + tail + text];
+    Ok(&slot[..HEAD + 13 * groups + tail + text])
+}
+
+/// The same, or the refusal 3 to 5 of a leaf.
+pub fn leaf_sheet(slot: &[u8]) -> Result<&[u8], u32> {
+    let sheet = sheet_in(slot)?;
     Sheet::decode(sheet).map(|_| sheet)
 }
 
@@ -474,13 +479,18 @@ pub fn lay_out(request: &Request, filler: u8) -> Vec<u8> {
 /// The same in slots of another length, with as many bytes for each node.
 pub fn lay_out_by(slot: usize, request: &Request, filler: u8) -> Vec<u8> {
     let mut work = vec![filler; request.work_len / SLOT * slot + request.work_len % SLOT];
-    for (leaf, sheet) in request.leaves.iter().enumerate() {
+    lay_into(&mut work, slot, &request.leaves);
+    work
+}
+
+/// Leaves in slots of a length, those that fit.
+pub fn lay_into(work: &mut [u8], slot: usize, leaves: &[Vec<u8>]) {
+    for (leaf, sheet) in leaves.iter().enumerate() {
         let start = slot * leaf;
         if start + sheet.len() <= work.len() {
             work[start..start + sheet.len()].copy_from_slice(sheet);
         }
     }
-    work
 }
 
 /// The work buffer after the call: only derived sheets are new.
