@@ -13,6 +13,8 @@ compare store-plans --seed S       writes the stored list of plans to standard o
 compare list-plans FILE            a stored list of plans, replayed by the plan calls
 compare reveals --seed S --count N one node's sheet for a reader: generated runs against the oracle walked, each with two
                                    runs over other buffers, and beside the plan call
+compare store-reveals --seed S     writes the stored list of these runs to standard output
+compare list-reveals FILE          a stored list of these runs, replayed
 compare contained --seed S --count N
                                    demand 3 on accepted plans: exact results of rows keep to the sheets,
                                    whichever side each Pool step takes
@@ -62,6 +64,12 @@ fn run(words: &[&str]) -> Result<usize, String> {
             let [seed, count] = numbers(options, many)?;
             Ok(report_reveals(reveals::generated(seed, count as usize)))
         }
+        ["store-reveals", options @ ..] => {
+            let [seed] = numbers(options, [("--seed", None)])?;
+            print!("{}", reveals::stored::made(seed));
+            Ok(0)
+        }
+        ["list-reveals", file] => replayed(file, reveals::stored::replay).map(report_reveals),
         ["contained", options @ ..] => {
             let [seed, count] = numbers(options, many)?;
             let counts = contained::generated(seed, count as usize);

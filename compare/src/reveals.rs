@@ -6,6 +6,7 @@
 mod draw;
 mod outcomes;
 mod pairs;
+pub mod stored;
 
 use crate::guard::Lent;
 use crate::judge;

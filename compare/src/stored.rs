@@ -262,15 +262,18 @@ fn unfit(random: &mut Random, out: &mut String) {
     }
 }
 
-/// Only leaves that still fit are laid out.
 fn shorten(random: &mut Random, request: &mut Request) {
     request.work_len = plans::short(random, request.work_len);
-    let length = request.work_len;
-    let fitting = request.leaves.iter().enumerate();
-    let count = fitting
+    fitting(&mut request.leaves, request.work_len);
+}
+
+/// Only leaves that fit are laid out.
+pub fn fitting(leaves: &mut Vec<Vec<u8>>, length: usize) {
+    let places = leaves.iter().enumerate();
+    let count = places
         .take_while(|(leaf, sheet)| SLOT * leaf + sheet.len() <= length)
         .count();
-    request.leaves.truncate(count);
+    leaves.truncate(count);
 }
 
 /// Draws until the answer is as wanted and the line is not too long.
@@ -303,7 +306,7 @@ fn line(request: &Request, answer: &Expected) -> String {
     )
 }
 
-fn joined(sheets: &[Vec<u8>]) -> String {
+pub fn joined(sheets: &[Vec<u8>]) -> String {
     if sheets.is_empty() {
         return "-".to_string();
     }
@@ -349,14 +352,14 @@ fn parse(line: &str) -> Result<(Request, Expected), String> {
     Ok((request, wanted))
 }
 
-fn sheets(text: &str) -> Result<Vec<Vec<u8>>, String> {
+pub fn sheets(text: &str) -> Result<Vec<Vec<u8>>, String> {
     if text == "-" {
         return Ok(Vec::new());
     }
     text.split(',').map(bytes).collect()
 }
 
-fn bytes(text: &str) -> Result<Vec<u8>, String> {
+pub fn bytes(text: &str) -> Result<Vec<u8>, String> {
     if text == "-" {
         return Ok(Vec::new());
     }
