@@ -18,6 +18,10 @@ const REFUSED: usize = 2;
 /// A line that is longer is drawn again, so that the file stays small.
 const LONGEST_LINE: usize = 4000;
 
+/// What stands in the output before a call: not the work buffer's filler, so that it
+/// shows if more than the sheet is copied.
+const PAPER: u8 = 0x5a;
+
 const ABS: u32 = 1;
 const ADD: u32 = 2;
 const MULTIPLY: u32 = 4;
@@ -34,8 +38,8 @@ const FORM: &str = "\
 #   work_len  the length of the work buffer, in bytes
 #   out_len   the length of the output, in bytes
 #   leaves    the leaf sheets' bytes in node order, hex, joined by commas, - for none. Sheet i stands at byte
-#             2308 * i of the work buffer; every other byte of the buffer and every byte of the output is a5
-#             before the call.
+#             2308 * i of the work buffer; every other byte of the buffer is a5 before the call, and every byte
+#             of the output is 5a.
 #   code      0, or the refusal's number
 #   value     the length of the sheet shown, or the node refused (65535 with 1 and 27)
 #   written   the sheets of the steps that were walked, node:hex in node order, joined by commas, - for none. Each
@@ -109,7 +113,7 @@ impl Case {
         lay_into(&mut work, SLOT, &self.leaves);
         Buffers {
             work,
-            out: vec![FILLER; self.out_len],
+            out: vec![PAPER; self.out_len],
         }
     }
 
