@@ -60,26 +60,40 @@ fn run(words: &[&str]) -> Result<usize, String> {
             Ok(0)
         }
         ["list-plans", file] => replayed(file, stored::replay).map(report),
-        ["reveals", options @ ..] => {
-            let [seed, count] = numbers(options, many)?;
-            Ok(report_reveals(reveals::generated(seed, count as usize)))
-        }
-        ["store-reveals", options @ ..] => {
-            let [seed] = numbers(options, [("--seed", None)])?;
-            print!("{}", reveals::stored::made(seed));
-            Ok(0)
-        }
-        ["list-reveals", file] => replayed(file, reveals::stored::replay).map(report_reveals),
+        ["reveals" | "store-reveals" | "list-reveals", ..] => run_reveals(words),
         ["contained", options @ ..] => {
             let [seed, count] = numbers(options, many)?;
             let counts = contained::generated(seed, count as usize);
             println!("{counts}");
             Ok(counts.tally.differences)
         }
-        [] => Err("no command".to_string()),
-        [word, ..] => Err(format!(
-            "`{word}` is no command, or not with these arguments"
-        )),
+        _ => Err(unknown(words)),
+    }
+}
+
+/// The same of the runs that show one node's sheet.
+fn run_reveals(words: &[&str]) -> Result<usize, String> {
+    let counts = match words {
+        ["reveals", options @ ..] => {
+            let [seed, count] = numbers(options, [("--seed", None), ("--count", None)])?;
+            reveals::generated(seed, count as usize)
+        }
+        ["store-reveals", options @ ..] => {
+            let [seed] = numbers(options, [("--seed", None)])?;
+            print!("{}", reveals::stored::made(seed));
+            return Ok(0);
+        }
+        ["list-reveals", file] => replayed(file, reveals::stored::replay)?,
+        _ => return Err(unknown(words)),
+    };
+    println!("{counts}");
+    Ok(counts.tally.differences)
+}
+
+fn unknown(words: &[&str]) -> String {
+    match words.first() {
+        None => "no command".to_string(),
+        Some(word) => format!("`{word}` is no command, or not with these arguments"),
     }
 }
 
@@ -91,11 +105,6 @@ fn replayed<T>(file: &str, replay: fn(&str) -> Result<T, String>) -> Result<T, S
 fn report(tally: Tally) -> usize {
     println!("{tally}");
     tally.differences
-}
-
-fn report_reveals(counts: reveals::Counts) -> usize {
-    println!("{counts}");
-    counts.tally.differences
 }
 
 /// Named numbers in any order; without a default each has to be there.

@@ -15,6 +15,7 @@ use crate::tally::Tally;
 use crate::Reply;
 use oracle_list::form::hex;
 use oracle_list::random::Random;
+use oracle_list::sheet::HEAD;
 use outcomes::{Outcomes, Seen};
 use std::collections::BTreeSet;
 use std::fmt;
@@ -316,16 +317,23 @@ impl Scene {
     }
 }
 
+/// A call in hex, with its leaves' sheets; of one that has none, its head.
 fn show(name: &str, fault: &str, request: &Request, before: &Buffers, wanted: &Expected) -> String {
+    let (leaves, _) = plans::parse(&request.plan).unwrap_or_default();
+    let slots = before.work.chunks_exact(SLOT).take(leaves);
+    let sheets: Vec<String> = slots
+        .map(|slot| hex(plans::sheet_in(slot).unwrap_or(&slot[..HEAD])))
+        .collect();
     format!(
-        "{name}: {fault}; wanted {:?}; plan {} owners {} reader {:x} node {} out {} work {}",
+        "{name}: {fault}; wanted {:?}; plan {} owners {} reader {:x} node {} work {} out {} leaves {}",
         wanted.reply,
         hex(&request.plan),
         hex(&request.owners),
         request.reader,
         request.wanted,
+        before.work.len(),
         before.out.len(),
-        hex(&before.work)
+        sheets.join(",")
     )
 }
 
