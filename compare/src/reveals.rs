@@ -1,7 +1,7 @@
 //! The call that shows a reader one node's sheet (document 02, S-7): drawn over the
 //! plans' generator and held against the oracle, walked step by step as for plans.
-//! The nodes walked and their owners are found here anew. Every run is also one of
-//! two pairs, and stands beside the plan call (`pairs`).
+//! The nodes walked and their owners are found here anew. Every run has two more over
+//! other buffers, and stands beside the plan call (`pairs`).
 
 mod draw;
 mod outcomes;
