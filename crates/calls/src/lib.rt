@@ -1,1 +1,1 @@
-// The two calls as definitions: the nature derived, the derived sheet, the single call and the plan call. No code.
+// The single call and the plan call as definitions: the nature derived, the derived sheet, the calls. No code.

@@ -47,7 +47,7 @@ leaf-made Q A (ok s) k work rest h e = (refl, h .0)
 leaf-made Q A (refused n) k work rest h e = absurd (omega arith)
 
 -- i, or a number behind it
-from-first : (P : ℕ → Type 0) (i j : ℕ) → i ≤ j → P i → (i + 1 ≤ j → P j) → P j
+pub from-first : (P : ℕ → Type 0) (i j : ℕ) → i ≤ j → P i → (i + 1 ≤ j → P j) → P j
 from-first P i j h p q = go (eqb i j) refl
   where
     go : (t : Bool) → eqb i j ≡ t → P j

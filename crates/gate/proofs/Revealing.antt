@@ -10,7 +10,6 @@ use mathlib.Core.List.{List, [], _∷_}
 use mathlib.Core.Logic.{⊎-elim}
 use Prim.Native.Nat.{ℕ, _<_}
 use native.Mathlib.Omega.{arith}
-use borrow.Author.Tests.{ne-eqb}
 use types.Run.{OneOf}
 use denote.Enum.Declared.{tagOf}
 use Rattle.bytes.proofs.Reread.{AllBytes}
@@ -30,6 +29,7 @@ use Rattle.rights.specs.Reveal.{Revealed, revealed, showing, shownOf, walkedTo,
 use Rattle.rights.specs.Code.{Permitted, Admitted}
 use Rattle.replies.specs.Reply.{replied, shown}
 use Rattle.reveal_laws.specs.Runs.{SameRights, Alike, AsPlanned}
+use Rattle.reveal_laws.proofs.Cases.{shown-refused}
 use Rattle.reveal_laws.proofs.SameRights.{same-rights}
 use Rattle.reveal_laws.proofs.Alike.{alike}
 use Rattle.reveal_laws.proofs.AsPlanned.{as-planned}
@@ -56,9 +56,9 @@ module _ (r : ℕ) (work out : List ℕ) where
   reply-shown e = ap (λ (o : Outcome). revealed (o .code) (o .value) work out) e
 
 module _ (wanted : ℕ) (out : List ℕ) where
-  shown-refused : {o : Outcome} {k node : ℕ} {w : List ℕ} → 0 < k → o ≡ outcome k node w → shownOf narrow wanted o out ≡ revealed k node w out
-  unfolding shownOf
-  shown-refused {o} {k} some e = rw (e, ne-eqb k 0 (λ (z : k ≡ 0). omega arith))
+  refused-shown : {o : Outcome} {k node : ℕ} {w : List ℕ} → 0 < k → o ≡ outcome k node w → shownOf narrow wanted o out ≡ revealed k node w out
+  refused-shown {o} {k} {node} {w} some e =
+      ap (λ (o : Outcome). shownOf narrow wanted o out) e ∙ shown-refused wanted (outcome k node w) out (λ (z : k ≡ 0). omega arith)
 
   shown-accepted : {o : Outcome} {n : ℕ} {w : List ℕ} → o ≡ outcome 0 n w
       → shownOf narrow wanted o out ≡ (let s = showing (sheetIn narrow wanted w) out in revealed (s .code) (s .value) w (s .bytes))
@@ -100,7 +100,7 @@ module _ (p owners : List ℕ) (reader wanted : ℕ) (work out : List ℕ) where
         → shown r work out ≡ whole
     leaves-shown (W.Accepted n) r h s says = absurd (s .next)
     leaves-shown (W.Refused k node) r h s says =
-        reply-shown r work out (says 0 p work) ∙ sym (shown-refused wanted out (s .next .0) (walked-leaves s)) ∙ permitted .shows out
+        reply-shown r work out (says 0 p work) ∙ sym (refused-shown wanted out (s .next .0) (walked-leaves s)) ∙ permitted .shows out
     leaves-shown (W.Next k) r h s says = absurd (no-next k h)
 
     -- the leaves passed, and the steps left a buffer
@@ -112,7 +112,7 @@ module _ (p owners : List ℕ) (reader wanted : ℕ) (work out : List ℕ) where
           → ((nodes : ℕ) (p work : List ℕ) → replied r work ≡ walked nodes p w work) → shown r after out ≡ whole
       steps-shown (W.Accepted n) r h e took says = absurd (not-accepted n h)
       steps-shown (W.Refused m node) r h e took says =
-          reply-shown r after out (says 0 p after) ∙ sym (shown-refused wanted out (e .0) (walked-all took)) ∙ permitted .shows out
+          reply-shown r after out (says 0 p after) ∙ sym (refused-shown wanted out (e .0) (walked-all took)) ∙ permitted .shows out
       steps-shown (W.Next m) r h e took says = absurd e
 
       pub sheet-shown : (n r : ℕ) (out′ : List ℕ) → outcome 0 n after ≡ walk narrow p (nodesFrom nodes p k) work

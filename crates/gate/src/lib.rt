@@ -123,8 +123,8 @@ pub extern "C" fn propagate_properties(plan: &[u8], work: &mut [u8]) -> u64
     replies::walked_reply(walks::walk_steps(plan, sets::FULL, k, work))
 }
 
-// The wanted node's sheet, in an output of its own, if the reader may see it. `rights`, `alike` and `planned` are what two runs, and the plan call, have in common
-// with this one.
+// The wanted node's sheet, in an output of its own, if the reader may see it. `rights` and `alike` say what every other run with the same plan, owners, reader and
+// wanted node has in common with this one, `planned` what the plan call has.
 #[no_mangle]
 pub extern "C" fn reveal_node(
     plan: &[u8],

@@ -10,8 +10,8 @@ ghost use Rattle.plan_step.specs.Code.{Rooms, Large};
 ghost use Rattle.plan_leaves.specs.Code.{nodesFrom, walked, Walkable};
 ghost use Rattle.plan.specs.Code.{Reaches};
 
-// Those steps of a set of nodes that come from node `from` on. Where the category stores are not lent, it stops before the first step that may use them. After a refusal, earlier steps'
-// sheets stand and no other byte has changed.
+// Those steps of a set of nodes that come from node `from` on. Where the category stores are not lent, it stops before the first step that may use them. After
+// a refusal, earlier steps' sheets stand and no other byte has changed.
 pub fn take_steps(
     plan: &[u8],
     nodes: u64,

@@ -18,7 +18,8 @@ pub const SLOT: usize = base::form::NARROW_LONGEST;
 // The node of a refusal that no node is at fault for.
 pub const NO_NODE: usize = 65535;
 
-// How far a plan was walked: to its end, with the node count; to a refusal and its node; or to the step that is next.
+// How far a plan was walked: to its end, with the node count; to a refusal and its node; or to the step that is next. `rights::admitted` says by the last that the
+// call goes on.
 pub enum Walked {
     Accepted(usize),
     Refused(u32, usize),

@@ -28,7 +28,8 @@ use Rattle.rights.specs.Reveal.{Revealed, revealed, callFails, shownOf, walkedT
 use Rattle.reveal_laws.specs.Runs.{Write, written, Each, ToStep, Agreeing, Alike}
 use Rattle.reveal_laws.proofs.Two.{Same, Ready}
 use Rattle.reveal_laws.proofs.Walks.{LeavesRun, passing, failing, leaves-run, Walks, walks}
-use Rattle.reveal_laws.proofs.Cases.{formed, within, mayShow, Case, fails, short, unseen, shows, which, reveal-fails, reveal-short, reveal-unseen, reveal-seen, shown-refused, shown-fits, shown-short}
+use Rattle.rights.proofs.Admitting.{reveal-fails, reveal-short, reveal-unseen, reveal-seen}
+use Rattle.reveal_laws.proofs.Cases.{formed, within, mayShow, Case, fails, short, unseen, shows, which, shown-refused, shown-fits, shown-short}
 
 -- walked leaves that pass 3 to 5 can be operands
 pub leaves-ready : (p : List ℕ) (wanted : ℕ) (work : List ℕ) → AllBytes work

@@ -27,7 +27,8 @@ use Rattle.reveal_laws.specs.Runs.{Shown, AsPlanned}
 use Rattle.reveal_laws.proofs.Puts.{put, put-length, step-before, step-length}
 use Rattle.reveal_laws.proofs.Two.{Same, Ready, same-itself, same-put, ready-put, ready-skip, same-past, Taken, refuses, gives, taken}
 use Rattle.reveal_laws.proofs.Walks.{walkedFrom, next-walked, follows, leaves-pass}
-use Rattle.reveal_laws.proofs.Cases.{formed, within, mayShow, Case, fails, short, unseen, shows, which, reveal-fails, reveal-short, reveal-unseen, reveal-seen, shown-fits, shown-short}
+use Rattle.rights.proofs.Admitting.{reveal-fails, reveal-short, reveal-unseen, reveal-seen}
+use Rattle.reveal_laws.proofs.Cases.{formed, within, mayShow, Case, fails, short, unseen, shows, which, shown-fits, shown-short}
 use Rattle.reveal_laws.proofs.Alike.{leaves-ready}
 
 -- a step that was not refused

@@ -1,8 +1,7 @@
 -- The call by its tests, in their order.
---     formed, within                                            a call that passed 1
---     which                                                     the four cases
---     reveal-fails, reveal-short, reveal-unseen, reveal-seen    the reply and the buffers, in each
---     shown-refused, shown-fits, shown-short                    what was walked, and whether it is shown
+--     formed, within                            a call that passed 1
+--     which                                     the four cases
+--     shown-refused, shown-fits, shown-short    what was walked, and whether it is shown
 -- Assumes nothing.
 use mathlib.Core.Path.{_≡_, refl}
 use mathlib.Core.Bool.{Bool, true, false, cond, not, _||_}
@@ -13,23 +12,20 @@ use lib.ListN.{length}
 use borrow.Author.Tests.{leb-false, ltb-true, ltb-false, lt-ltb, le-ltb, le-leb, lt-leb, eq-eqb, ne-eqb}
 use Rattle.bytes.specs.Deliver.{delivered}
 use Rattle.base.specs.Form.{narrow}
-use Rattle.base.proofs.Flags.{or-no}
 use Rattle.plan_form.specs.Form.{nodeCount, leafCount, planFails, noNode}
 use Rattle.calls.specs.Single.{Outcome}
 use Rattle.calls.specs.Walk.{slotAt, sheetIn}
 use Rattle.rights.specs.Rights.{ownerBytes, ownersOf, seen}
-use Rattle.rights.specs.Reveal.{Revealed, revealed, callFails, showing, shownOf, walkedTo, reveal}
+use Rattle.rights.specs.Reveal.{revealed, callFails, showing, shownOf}
+use Rattle.rights.proofs.Admitting.{call-passed}
 
+-- a call that passed 1
 module _ (p owners : List ℕ) (wanted : ℕ) (passed : callFails p owners wanted ≡ false) where
-  parts : (planFails p ≡ false) × ((leb (nodeCount p) wanted || not (eqb (length owners) (ownerBytes * leafCount p))) ≡ false)
-  unfolding callFails
-  parts = or-no (planFails p) _ passed
-
   pub formed : planFails p ≡ false
-  formed = parts .0
+  formed = call-passed p owners wanted passed .0 .formed
 
   pub within : wanted < nodeCount p
-  within = leb-false (nodeCount p) wanted (or-no (leb (nodeCount p) wanted) _ (parts .1) .0)
+  within = call-passed p owners wanted passed .0 .within
 
 module _ (p owners : List ℕ) (reader wanted : ℕ) where
   abbrev pub mayShow : Bool
@@ -49,34 +45,6 @@ module _ (p owners : List ℕ) (reader wanted : ℕ) where
       go false true c e f g = short e (ltb-true (length work) (slotAt narrow (nodeCount p)) f)
       go false false false e f g = unseen e (ltb-false (length work) (slotAt narrow (nodeCount p)) f) g
       go false false true e f g = shows e (ltb-false (length work) (slotAt narrow (nodeCount p)) f) g
-
-  module _ (work out : List ℕ) where
-    abbrev tested : Bool → Bool → Bool → Revealed
-    tested a b c =
-        cond a (revealed 1 noNode work out)
-        (cond b (revealed 27 noNode work out) (cond c (shownOf narrow wanted (walkedTo narrow p wanted work) out) (revealed 30 wanted work out)))
-
-    by-tests : (a b c : Bool) → callFails p owners wanted ≡ a → ltb (length work) (slotAt narrow (nodeCount p)) ≡ b → mayShow ≡ c
-        → reveal narrow p owners reader wanted work out ≡ tested a b c
-    unfolding reveal
-    by-tests a b c e f g = λ i. tested (e i) (f i) (g i)
-
-    pub reveal-fails : callFails p owners wanted ≡ true → reveal narrow p owners reader wanted work out ≡ revealed 1 noNode work out
-    reveal-fails e = by-tests true _ _ e refl refl
-
-    module _ (e : callFails p owners wanted ≡ false) where
-      pub reveal-short : length work < slotAt narrow (nodeCount p) → reveal narrow p owners reader wanted work out ≡ revealed 27 noNode work out
-      reveal-short h = by-tests false true _ e (lt-ltb (length work) (slotAt narrow (nodeCount p)) h) refl
-
-      module _ (room : slotAt narrow (nodeCount p) ≤ length work) where
-        long : ltb (length work) (slotAt narrow (nodeCount p)) ≡ false
-        long = le-ltb (length work) (slotAt narrow (nodeCount p)) room
-
-        pub reveal-unseen : mayShow ≡ false → reveal narrow p owners reader wanted work out ≡ revealed 30 wanted work out
-        reveal-unseen g = by-tests false false false e long g
-
-        pub reveal-seen : mayShow ≡ true → reveal narrow p owners reader wanted work out ≡ shownOf narrow wanted (walkedTo narrow p wanted work) out
-        reveal-seen g = by-tests false false true e long g
 
 -- ---- what was walked
 

@@ -99,31 +99,31 @@ module _ (k : ℕ) (vs x : List ℕ) where
 -- ---- a step
 
 -- what a component's number gives of the operands' sheets
-abbrev pub given : Numbered → ℕ → List ℕ → List ℕ → Result (List ℕ)
-given N.Unlisted k l r = refused 2
-given (N.Is c) k l r = step narrow c k l r
+abbrev pub resultOf : Numbered → ℕ → List ℕ → List ℕ → Result (List ℕ)
+resultOf N.Unlisted k l r = refused 2
+resultOf (N.Is c) k l r = step narrow c k l r
 
-given-fits : (n : Numbered) (k : ℕ) (l r : List ℕ) → k < 2 ^ 32 → Held narrow (decode narrow l) → Held narrow (decode narrow r) → Gives Fit (given n k l r)
-given-fits N.Unlisted k l r h p q = omega arith
-given-fits (N.Is c) k l r h p q =
+result-fits : (n : Numbered) (k : ℕ) (l r : List ℕ) → k < 2 ^ 32 → Held narrow (decode narrow l) → Held narrow (decode narrow r) → Gives Fit (resultOf n k l r)
+result-fits N.Unlisted k l r h p q = omega arith
+result-fits (N.Is c) k l r h p q =
     gives-more (Written narrow-laid c l r k) Fit (step narrow c k l r) (step-gives narrow-laid c l r (λ z. p) (λ z. q) k h)
     (λ vs e w. subst Fit (sym (w .bytes)) (sound-fit (numbered (familyOf c) k (w .sheet)) (w .sound)))
 
-single-given : (n : Numbered) (k : ℕ) (l r out : List ℕ) → singleOf narrow n k l r out ≡ delivery (given n k l r) out
+single-result : (n : Numbered) (k : ℕ) (l r out : List ℕ) → singleOf narrow n k l r out ≡ delivery (resultOf n k l r) out
 unfolding singleOf delivery
-single-given N.Unlisted k l r out = refl
-single-given (N.Is c) k l r out = refl
+single-result N.Unlisted k l r out = refl
+single-result (N.Is c) k l r out = refl
 
 module _ (p : List ℕ) (k : ℕ) where
   -- of node k, from a buffer
-  abbrev pub givenIn : List ℕ → Result (List ℕ)
-  givenIn x = given (componentOf (componentNumber p k)) k (sheetIn narrow (leftOf p k) x) (sheetIn narrow (rightOf p k) x)
+  abbrev pub resultIn : List ℕ → Result (List ℕ)
+  resultIn x = resultOf (componentOf (componentNumber p k)) k (sheetIn narrow (leftOf p k) x) (sheetIn narrow (rightOf p k) x)
 
   pub step-fits : (x : List ℕ) → k < 2 ^ 32 → Held narrow (decode narrow (sheetIn narrow (leftOf p k) x)) → Held narrow (decode narrow (sheetIn narrow (rightOf p k) x))
-      → Gives Fit (givenIn x)
-  step-fits x h l r = given-fits (componentOf (componentNumber p k)) k _ _ h l r
+      → Gives Fit (resultIn x)
+  step-fits x h l r = result-fits (componentOf (componentNumber p k)) k _ _ h l r
 
-  -- by what is given: nothing is written, or the sheet is put into the slot
+  -- by the result: nothing is written, or the sheet is put into the slot
   abbrev pub afterwards : Result (List ℕ) → List ℕ → Outcome
   afterwards (refused n) x = outcome n 0 x
   afterwards (ok vs) x = outcome 0 (length vs) (put k vs x)
@@ -137,12 +137,12 @@ module _ (p : List ℕ) (k : ℕ) where
       let left = length-drop (slotAt narrow k) x in
       rw (le-leb (length vs) (length (drop (slotAt narrow k) x)) (omega arith))
 
-  pub stepped : (x : List ℕ) → Gives Fit (givenIn x) → slotAt narrow (k + 1) ≤ length x → stepOn narrow p k x ≡ afterwards (givenIn x) x
+  pub stepped : (x : List ℕ) → Gives Fit (resultIn x) → slotAt narrow (k + 1) ≤ length x → stepOn narrow p k x ≡ afterwards (resultIn x) x
   unfolding stepOn
   stepped x f room =
       ap (λ (o : Outcome). outcome (o .code) (o .value) (take (slotAt narrow k) x ++ o .bytes))
-      (single-given (componentOf (componentNumber p k)) k _ _ (drop (slotAt narrow k) x))
-      ∙ placed (givenIn x) x f room
+      (single-result (componentOf (componentNumber p k)) k _ _ (drop (slotAt narrow k) x))
+      ∙ placed (resultIn x) x f room
 
 -- ---- any step
 
@@ -168,4 +168,4 @@ module _ (p : List ℕ) (k : ℕ) (x : List ℕ) where
   step-length =
       let out = drop (slotAt narrow k) x in
       behind-length (slotAt narrow k) x (answer .bytes)
-      (ap (λ (o : Outcome). length (o .bytes)) (single-given (componentOf (componentNumber p k)) k _ _ out) ∙ delivery-length (givenIn p k x) out)
+      (ap (λ (o : Outcome). length (o .bytes)) (single-result (componentOf (componentNumber p k)) k _ _ out) ∙ delivery-length (resultIn p k x) out)

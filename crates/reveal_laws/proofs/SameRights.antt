@@ -20,7 +20,8 @@ use Rattle.step_laws.proofs.Never.{single-given, read-given}
 use Rattle.standing.specs.Standing.{walkedLeaves, walkedSteps}
 use Rattle.rights.specs.Reveal.{Revealed, revealed, callFails, showing, shownOf, walkedTo, reveal}
 use Rattle.reveal_laws.specs.Runs.{SameRights}
-use Rattle.reveal_laws.proofs.Cases.{mayShow, Case, fails, short, unseen, shows, which, reveal-fails, reveal-short, reveal-unseen, reveal-seen}
+use Rattle.rights.proofs.Admitting.{reveal-fails, reveal-short, reveal-unseen, reveal-seen}
+use Rattle.reveal_laws.proofs.Cases.{mayShow, Case, fails, short, unseen, shows, which}
 
 -- ---- what is walked never says 30
 

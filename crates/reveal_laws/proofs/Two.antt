@@ -28,7 +28,7 @@ use Rattle.derived.proofs.Gives.{Gives}
 use Rattle.containment.proofs.Slots.{sheet-same, sheetAt}
 use Rattle.standing.specs.Standing.{stands}
 use Rattle.standing.proofs.Least.{stands-operands}
-use Rattle.reveal_laws.proofs.Puts.{Fit, put, put-before, put-length, put-sheet, given, givenIn, step-fits, afterwards, stepped}
+use Rattle.reveal_laws.proofs.Puts.{Fit, put, put-before, put-length, put-sheet, resultOf, resultIn, step-fits, afterwards, stepped}
 
 -- the slots before k are known by the bytes before it
 pub sheets-before : (k : ℕ) (x y : List ℕ) → take (slotAt narrow k) x ≡ take (slotAt narrow k) y → (j : ℕ) → j < k → sheetIn narrow j x ≡ sheetIn narrow j y
@@ -114,19 +114,19 @@ module _ (p : List ℕ) (wanted : ℕ) where
     standing : (stands p wanted (leftOf p k) ≡ true) × (stands p wanted (rightOf p k) ≡ true)
     standing = stands-operands p formed within walked later
 
-    same-given : (y : List ℕ) → Same k x y → givenIn p k x ≡ givenIn p k y
-    same-given y s =
-        ap₂ (given (componentOf (componentNumber p k)) k) (s .sheets (leftOf p k) (early .0) (standing .0)) (s .sheets (rightOf p k) (early .1) (standing .1))
+    same-result : (y : List ℕ) → Same k x y → resultIn p k x ≡ resultIn p k y
+    same-result y s =
+        ap₂ (resultOf (componentOf (componentNumber p k)) k) (s .sheets (leftOf p k) (early .0) (standing .0)) (s .sheets (rightOf p k) (early .1) (standing .1))
 
-    fits : Gives Fit (givenIn p k x)
+    fits : Gives Fit (resultIn p k x)
     fits =
         let few = planned p formed .nodes in
         step-fits p k x (omega arith) (ready .held (leftOf p k) (early .0) (standing .0)) (ready .held (rightOf p k) (early .1) (standing .1))
 
-    both : (y : List ℕ) → Same k x y → stepOn narrow p k y ≡ afterwards p k (givenIn p k x) y
+    both : (y : List ℕ) → Same k x y → stepOn narrow p k y ≡ afterwards p k (resultIn p k x) y
     both y s =
         let size = s .size in
-        let e = same-given y s in
+        let e = same-result y s in
         stepped p k y (subst (Gives Fit) e fits) (omega arith) ∙ ap (λ (g : Result (List ℕ)). afterwards p k g y) (sym e)
 
     by-answer : (g : Result (List ℕ)) → Gives Fit g → ((y : List ℕ) → Same k x y → stepOn narrow p k y ≡ afterwards p k g y) → Taken k x
@@ -134,4 +134,4 @@ module _ (p : List ℕ) (wanted : ℕ) where
     by-answer (ok vs) f e = gives vs f e
 
     pub taken : Taken k x
-    taken = by-answer (givenIn p k x) fits both
+    taken = by-answer (resultIn p k x) fits both

@@ -23,6 +23,7 @@ use Rattle.base.proofs.Passed.{Passed, read-passed}
 use Rattle.plan_form.specs.Form.{nodeCount, leafCount, planFails}
 use Rattle.calls.specs.Single.{Outcome, outcome}
 use Rattle.calls.specs.Walk.{slotAt, sheetIn, stepOn, unlessRefused, walk, leafThen, leavesThen}
+use Rattle.containment.proofs.Accepted.{from-first}
 use Rattle.derived.proofs.Gives.{Gives}
 use Rattle.derived.proofs.Decoded.{read-gives}
 use Rattle.sets.specs.Sets.{chosen}
@@ -30,14 +31,6 @@ use Rattle.standing.specs.Standing.{stands}
 use Rattle.reveal_laws.specs.Runs.{Write, written, Each, ToStep}
 use Rattle.reveal_laws.proofs.Puts.{Fit, put, put-length}
 use Rattle.reveal_laws.proofs.Two.{Same, Ready, same-put, ready-put, same-skip, ready-skip, Taken, refuses, gives, taken}
-
--- i, or a number behind it
-from-first : (R : ℕ → Type 0) (i j : ℕ) → i ≤ j → R i → (i + 1 ≤ j → R j) → R j
-from-first R i j h first later = go (eqb i j) refl
-  where
-    go : (t : Bool) → eqb i j ≡ t → R j
-    go true e = subst R (eqb-true i j e) first
-    go false e = let n = eqb-false i j e in later (omega arith)
 
 module _ (p : List ℕ) (wanted : ℕ) where
   -- of the n nodes from k on, those that the wanted node stands on

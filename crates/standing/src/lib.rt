@@ -7,7 +7,8 @@ ghost use Rattle.sets.specs.Sets.{inSet};
 ghost use Rattle.standing.specs.Standing.{stands};
 ghost use Rattle.standing.specs.Code.{NodeOf, gathered};
 
-// Unites the sets that node `wanted` and all it stands on have of their own: those of the nodes go in, and the union of each is in its place afterwards.
+// Unites the sets that node `wanted` and all it stands on have of their own: every node's own set goes in, and up to `wanted` each place has the union of what its
+// node stands on afterwards.
 pub fn gather(plan: &[u8], wanted: usize, sets: &mut [u64]) -> u64
     requires { ⌜ NodeOf (now plan) wanted × (nodeLimit ≤ length (now sets)) ⌝ }
     ensures { λ r. ⌜ r ≡ gathered (now (plan .entry)) (λ k. getD (now (sets .entry)) k 0) wanted ⌝ }

@@ -22,7 +22,7 @@ use Rattle.rights.proofs.admitted.Tie as tie
 returns : tie.Need-returns
 returns c =
     let a = c .before .before .before .before .before .args in
-    (λ out. reveal-fails (now (a .plan)) (now (a .owners)) (a .reader) (a .wanted) (now (a .work)) out (sym (c .before .call-fails .ensures) ∙ c .if1 .taken), search needs)
+    (λ out. sym (reveal-fails (now (a .plan)) (now (a .owners)) (a .reader) (a .wanted) (now (a .work)) out (sym (c .before .call-fails .ensures) ∙ c .if1 .taken)), search needs)
 
 -- 1 has passed
 module _ (c : tie.Else1) where
@@ -42,7 +42,7 @@ module _ (c : tie.Else1) where
   passed = sym (c .before .call-fails .ensures) ∙ c .if1 .left
 
   node : NodeOf p (start .args .wanted) × (length owners ≡ ownerBytes * leafCount p)
-  node = call-passed p owners (start .args .reader) (start .args .wanted) work work passed
+  node = call-passed p owners (start .args .wanted) passed
 
 node-count-requires : tie.Need-node-count-requires
 node-count-requires c κs = planned (p c) (node c .0 .formed) .sizes
@@ -57,7 +57,7 @@ returns-2 c =
     let t = c .before .before in
     let a = start t .args in
     let e = c .before .node-count .ensures in
-    (λ out. reveal-short (p t) (owners t) (a .reader) (a .wanted) (work t) out (passed t) (omega arith), search needs)
+    (λ out. sym (reveal-short (p t) (owners t) (a .reader) (a .wanted) (work t) out (passed t) (omega arith)), search needs)
 
 -- 27 too
 room : (c : tie.Else2) → slotAt narrow (nodeCount (p (c .before .before))) ≤ length (work (c .before .before))
@@ -80,7 +80,7 @@ returns-3 c =
     let a = start t .args in
     let f = planned (p t) (node t .0 .formed) in
     let h = node t .0 .within in
-    (λ out. reveal-unseen (p t) (owners t) (a .reader) (a .wanted) (work t) out (passed t) (room e) (sym (may-see (c .before)) ∙ not-true _ (c .if3 .taken)), omega arith)
+    (λ out. sym (reveal-unseen (p t) (owners t) (a .reader) (a .wanted) (work t) out (passed t) (room e) (sym (may-see (c .before)) ∙ not-true _ (c .if3 .taken))), omega arith)
 
 returns-4 : tie.Need-returns-4
 returns-4 c =
@@ -90,7 +90,7 @@ returns-4 c =
     record {
       node = node t .0;
       walkable = record { formed = node t .0 .formed; room = room e };
-      shows = λ out. reveal-seen (p t) (owners t) (a .reader) (a .wanted) (work t) out (passed t) (room e) (sym (may-see (c .before)) ∙ not-false _ (c .if3 .left));
+      shows = λ out. sym (reveal-seen (p t) (owners t) (a .reader) (a .wanted) (work t) out (passed t) (room e) (sym (may-see (c .before)) ∙ not-false _ (c .if3 .left)));
     }
 
 pub admitted-spec : {M : Type 1} → statement M
