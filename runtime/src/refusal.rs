@@ -162,7 +162,7 @@ impl Refusal {
         Refusal::all().find(|refusal| refusal.code() == code)
     }
 
-    /// Document 01's sentence.
+    /// The documents' sentence.
     pub fn sentence(self) -> &'static str {
         self.row().1
     }

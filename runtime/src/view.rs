@@ -1,6 +1,6 @@
 //! What one reader sees of a plan: one node's sheet, or why it is not shown.
 //!
-//! A view is made of the shown sheet, of the plan's steps, names and owners, and of nothing else: the leaves' sheets are let go before anything is put into words. So no output depends on a sheet that the reader may not see.
+//! A view is made of the shown sheet, of the plan's steps, names and owners, and of nothing else: the leaves' sheets are let go before anything is put into words. So beyond the shown sheet, or a refusal's number and node, no output depends on a sheet.
 
 use crate::calls::Stopped;
 use crate::cards::{notes, table, Stop};

@@ -8,7 +8,7 @@ use crate::rinks::Rinks;
 /// What is said in place of a cause that sheets would tell: they may be others than the reader's.
 pub const WITHHELD: &str = "what of the sheets caused it is not said: the reader need not be allowed to see them";
 
-/// Why a node was not shown. Of 1 and 30 it is said in full; every other refusal is caused by sheets, of which nothing is said.
+/// Why a node was not shown. Of 1, 27 and 30, which read no sheet, it is said in full; every other refusal is caused by sheets, of which nothing is said.
 ///
 /// ```
 /// use gate_runtime::{causes, Plan, Refusal, Rinks};
@@ -21,6 +21,7 @@ pub fn of_reveal(refusal: Refusal, plan: &Plan, owners: &[Rinks], reader: Rinks,
     match refusal {
         Refusal::MalformedPlan => vec![of_request(plan, owners, wanted)],
         Refusal::NotForReader => of_rights(plan.owners_of(owners, wanted), reader),
+        Refusal::OutputTooShort => vec!["the work buffer or the output is too short".to_string()],
         _ => vec![WITHHELD.to_string()],
     }
 }
@@ -44,6 +45,7 @@ fn of_request(plan: &Plan, owners: &[Rinks], wanted: usize) -> String {
     match Plan::decode(&plan.encode()) {
         Err(fault) => fault.what,
         Ok(_) if wanted >= nodes => format!("node {wanted}: the plan has nodes 0 to {}", nodes - 1),
+        Ok(_) if plan.leaves == 1 => format!("owner sets: {}, the plan has 1 leaf", owners.len()),
         Ok(_) => format!("owner sets: {}, the plan has {} leaves", owners.len(), plan.leaves),
     }
 }

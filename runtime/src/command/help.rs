@@ -60,11 +60,11 @@ on. A node without owners is shown to everybody.
   --reader SET  the reader's rinks, 0 to 63: '{3, 17}', or '{}' for none
   --json        one JSON document
 
-Only the node and what it stands on is walked. What is printed is made of the
-node's own sheet and of the plan's steps, names and owners, never of another
-sheet. So a refusal other than 30 says its number, its node and what the number
-means, and not which values caused it; and a malformed file is only said to be
-one. `gate cards` says the rest, to those who may see every leaf.
+Only the node and what it stands on are walked. What is printed is the node's
+own sheet, or a refusal's number and node, with the plan's steps, names and
+owners: nothing else of any sheet. So a refusal other than 30 does not say which
+values caused it, and a malformed file is only said to be one. `gate cards` says
+the rest, to those who may see every leaf.
 
 Exit codes: 0 shown, 1 refused, 2 wrong use, no such name or a malformed file.
 ";
