@@ -184,7 +184,10 @@ fn causes_name_owners_and_no_values() {
     assert_eq!(of(Refusal::MalformedPlan, &[], 70_000), ["node 70000: the plan has nodes 0 to 2"]);
     let sets = causes::of_reveal(Refusal::MalformedPlan, &made.plan, &made.owners[..1], Rinks::NONE, 2);
     assert_eq!(sets, ["owner sets: 1, the plan has 2 leaves"]);
-    for refusal in Refusal::all().filter(|refusal| !matches!(refusal.code(), 1 | 30)) {
+    let none = causes::of_reveal(Refusal::MalformedPlan, &Plan::new(1), &[], Rinks::NONE, 0);
+    assert_eq!(none, ["owner sets: 0, the plan has 1 leaf"]);
+    assert_eq!(of(Refusal::OutputTooShort, &[], 2), ["the work buffer or the output is too short"]);
+    for refusal in Refusal::all().filter(|refusal| !matches!(refusal.code(), 1 | 27 | 30)) {
         assert_eq!(of(refusal, &[], 2), [WITHHELD], "{refusal}");
     }
 }
