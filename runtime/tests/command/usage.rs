@@ -86,8 +86,7 @@ fn the_format_help_shows_a_plan_and_every_item() {
 fn the_help_says_who_sees_what() {
     let flat = |topic| gate(&["help", topic]).out.split_whitespace().collect::<Vec<&str>>().join(" ");
     assert!(flat("show").contains("A node without owners is shown to everybody."));
-    assert!(flat("show")
-        .contains("a refusal other than 30 says its number, its node and what the number means, and not which values caused it"));
+    assert!(flat("show").contains("a refusal other than 30 does not say which values caused it"));
     assert!(flat("format").contains("rinks, 0 to 63, that own it; default: none, and `gate show` then shows it to everybody"));
     assert!(flat("cards").contains("Every node is printed, whoever owns it"));
 }
