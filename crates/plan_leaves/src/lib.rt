@@ -2,13 +2,16 @@
 use base::form::Form;
 use base::refusals;
 ghost use mathlib.Core.Path.{_≡_};
+ghost use mathlib.Core.Bool.{false};
+ghost use lib.Dec.{ltb};
+ghost use lib.ListN.{length};
 ghost use Rattle.base.specs.Form.{narrow};
 ghost use Rattle.base.specs.Checks.{read};
 ghost use Rattle.base.specs.Code.{codeOf};
 ghost use Rattle.lending.specs.Code.{holdsCategories};
 ghost use Rattle.sets.specs.Sets.{fullSet};
-ghost use Rattle.plan_form.specs.Form.{leftOf};
-ghost use Rattle.calls.specs.Walk.{sheetIn};
+ghost use Rattle.plan_form.specs.Form.{nodeCount, leftOf, planFails};
+ghost use Rattle.calls.specs.Walk.{slotAt, sheetIn};
 ghost use Rattle.plan_leaves.specs.Code.{SlotIn, EndsAt, Steppable, walked, Walkable, LeavesSay, Begun};
 ghost use Rattle.calls.specs.Walk as Walk;
 
@@ -79,6 +82,14 @@ pub fn check_leaves(plan: &[u8], nodes: u64, work: &[u8]) -> Walked
     Walked::Next(leaves)
 }
 
+// 27: whether the work buffer lacks a slot for some node of the plan.
+pub fn lacks_slots(plan: &[u8], work: &[u8]) -> bool
+    requires { ⌜ planFails (now plan) ≡ false ⌝ }
+    ensures { λ r. ⌜ r ≡ ltb (length (now (work .entry))) (slotAt narrow (nodeCount (now (plan .entry)))) ⌝ }
+{
+    work.len() < plan_form::node_count(plan) * SLOT
+}
+
 // 1, 27 of the work buffer, and the leaves: the first step is next, or there is none, or the plan is refused.
 pub fn begin(plan: &[u8], work: &[u8]) -> Walked
     ensures { λ r. ⌜ (walked fullSet (now (plan .entry)) r (now (work .entry)) ≡ Walk.plan narrow (now (plan .entry)) (now (work .entry))) × Begun (now (plan .entry)) (now (work .entry)) r ⌝ }
@@ -86,7 +97,7 @@ pub fn begin(plan: &[u8], work: &[u8]) -> Walked
     if plan_form::plan_fails(plan) {
         return Walked::Refused(refusals::MALFORMED, NO_NODE);
     }
-    if work.len() < plan_form::node_count(plan) * SLOT {
+    if lacks_slots(plan, work) {
         return Walked::Refused(refusals::NO_ROOM, NO_NODE);
     }
     let leaves = check_leaves(plan, sets::FULL, work);

@@ -1,6 +1,6 @@
 -- 02, S-7: examples of the call that shows a node, under six theorems, from the bytes handed in to the reply and every byte of both buffers.
 --     shown-runs      who sees a node: the owners in the reader's set, five owners, no owners; 30 otherwise
---     early-runs      1, and 27 of the work buffer, before the rights; 30 before any sheet is read
+--     early-runs      1 before the rights; 30 before any sheet is read
 --     short-work      a work buffer that lacks one byte, before the rights
 --     walked-runs     only what the wanted node stands on is read and written
 --     unwalked-leaf   the plan call, which refuses a plan of these for a leaf that is not walked
@@ -325,20 +325,23 @@ unwalked-leaf = refl
 
 -- ---- the output
 
--- of so many bytes
-abbrev pub into : ℕ → ℕ → ℕ → Option Sheet → Run
-into room code value s = record {
+-- of so many bytes, for the sum or another node
+abbrev pub intoOf : ℕ → List (Option Sheet) → ℕ → ℕ → ℕ → Option Sheet → Run
+intoOf wanted steps room code value s = record {
   plan = adding;
   owners = setsOf (0 ∷ 0 ∷ []);
   reader = 0;
-  wanted = 2;
+  wanted = wanted;
   leaves = two;
   room = room;
   code = code;
   value = value;
-  steps = summed;
+  steps = steps;
   shown = s;
 }
+
+abbrev pub into : ℕ → ℕ → ℕ → Option Sheet → Run
+into = intoOf 2 summed
 
 -- Subtract of floats whose lower end is infinite
 unfoldable pub subtracting : List ℕ
@@ -363,18 +366,7 @@ outputs =
     -- "later bytes untouched"
     ∷ into 99 0 98 (some (total 2))
     -- of a wanted leaf too
-    ∷ record {
-      plan = adding;
-      owners = setsOf (0 ∷ 0 ∷ []);
-      reader = 0;
-      wanted = 0;
-      leaves = two;
-      room = 97;
-      code = 27;
-      value = noNode;
-      steps = unsummed;
-      shown = none;
-    }
+    ∷ intoOf 0 unsummed 97 27 noNode none
     -- a step's sheet that fails 5, by an infinite end
     ∷ shows subtracting (fraction minusLarge one ∷ fraction plusZero large ∷ []) (0 ∷ 0 ∷ []) 0 2 (some infinite ∷ []) infinite
     ∷ []

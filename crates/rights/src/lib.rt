@@ -69,7 +69,7 @@ pub fn admitted(plan: &[u8], owners: &[u8], reader: u64, wanted: usize, work: &[
     if call_fails(plan, owners, wanted) {
         return Walked::Refused(refusals::MALFORMED, plan_leaves::NO_NODE);
     }
-    if work.len() < plan_form::node_count(plan) * plan_leaves::SLOT {
+    if plan_leaves::lacks_slots(plan, work) {
         return Walked::Refused(refusals::NO_ROOM, plan_leaves::NO_NODE);
     }
     if !seen(owners_of(plan, owners, wanted), reader) {

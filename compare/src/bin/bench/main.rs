@@ -6,6 +6,7 @@ mod against;
 mod chains;
 mod classes;
 mod clock;
+mod shown;
 mod single;
 mod stack;
 mod targets;
@@ -59,6 +60,9 @@ fn report() {
     println!("\n### Plans\n");
     println!("Chains: one leaf, then steps that take the step before and the leaf. `its leaf` is a plan of that leaf alone; a step is the rest of the plan, shared out. `leaf, of leaves alone` is a plan without steps, by its leaves.\n");
     let plans = chains::table();
+    println!("\n### One node shown\n");
+    println!("Over the longest chain of each kind, whose leaf belongs to one rink: the last node stands on all others.\n");
+    shown::table();
     println!("\n### Targets in this run\n");
     targets::lines(&singles, &plans);
 }

@@ -2,6 +2,7 @@
 
 use crate::chains;
 use crate::classes::classes;
+use crate::shown::{runs, take, Reveal};
 use crate::ways::{answer, Answer};
 use comparison::plans::{lay_out, Plan, Request};
 use comparison::proved;
@@ -28,6 +29,11 @@ pub fn depths() {
                 plan(proved::propagate_properties, &chain),
                 plan(plain_port::propagate_properties, &chain),
             );
+            show(
+                &format!("last node shown, of {name}"),
+                reveal(proved::reveal_node, &chain),
+                reveal(plain_port::reveal_node, &chain),
+            );
         }
     });
     run.expect("a thread").join().expect("no panic");
@@ -49,4 +55,10 @@ fn plan(way: Plan, request: &Request) -> usize {
     proved::stack_depth(&mut || {
         black_box(way(&request.plan, &mut work));
     })
+}
+
+fn reveal(way: Reveal, request: &Request) -> usize {
+    let (mut work, mut out) = (lay_out(request, 0), vec![0; LONGEST]);
+    let [last, ..] = runs(request);
+    proved::stack_depth(&mut || take(way, request, &last, &mut work, &mut out))
 }

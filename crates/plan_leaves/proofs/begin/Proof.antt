@@ -5,9 +5,13 @@ use mathlib.Core.List.{List}
 use Prim.Native.Nat.{ℕ}
 use native.Mathlib.Omega.{arith}
 use denote.Ref.{now}
+use lib.ListN.{length}
 use borrow.Author.Needs.{needs}
+use borrow.Author.Tests.{ltb-true, ltb-false}
+use Rattle.base.specs.Form.{narrow}
+use Rattle.calls.specs.Walk.{slotAt}
 use Rattle.sets.specs.Sets.{fullSet}
-use Rattle.plan_form.specs.Form.{planFails}
+use Rattle.plan_form.specs.Form.{nodeCount, planFails}
 use Rattle.plan_leaves.specs.Code.{Walkable, LeavesSay}
 use Rattle.plan_leaves.specs.declared.Walked.{Walked}
 use Rattle.plan_leaves.specs.declared.Walked.the-variants as W
@@ -23,28 +27,25 @@ formed c = sym (c .before .plan-fails .ensures) ∙ c .if1 .left
 -- 27 too
 walkable : (c : tie.Else2) → let a = c .before .before .before .before .before .before .args in Walkable (now (a .plan)) (now (a .work))
 walkable c =
-    let e = c .before .node-count .ensures in
-    let h = c .if2 .left in
-    record { formed = formed (c .before .before); room = omega arith }
+    let a = c .before .before .before .before .before .before .args in
+    record {
+      formed = formed (c .before .before);
+      room = ltb-false (length (now (a .work))) (slotAt narrow (nodeCount (now (a .plan)))) (sym (c .before .lacks-slots .ensures) ∙ c .if2 .left);
+    }
 
 returns : tie.Need-returns
 returns c =
     let a = c .before .before .before .before .args in
     (plan-malformed (now (a .plan)) (now (a .work)) (sym (c .before .plan-fails .ensures) ∙ c .if1 .taken), search needs)
 
-node-count-requires : tie.Need-node-count-requires
-node-count-requires c κs = planned (now (c .before .before .before .before .args .plan)) (formed c) .sizes
-
-mul-if2 : tie.Need-mul-if2
-mul-if2 c =
-    let f = planned (now (c .before .before .before .before .before .args .plan)) (formed (c .before)) in
-    omega arith
+lacks-slots-requires : tie.Need-lacks-slots-requires
+lacks-slots-requires c κs = formed c
 
 returns-2 : tie.Need-returns-2
 returns-2 c =
     let a = c .before .before .before .before .before .before .args in
-    let e = c .before .node-count .ensures in
-    (plan-short (now (a .plan)) (now (a .work)) (formed (c .before .before)) (omega arith), search needs)
+    let short = ltb-true (length (now (a .work))) (slotAt narrow (nodeCount (now (a .plan)))) (sym (c .before .lacks-slots .ensures) ∙ c .if2 .taken) in
+    (plan-short (now (a .plan)) (now (a .work)) (formed (c .before .before)) short, search needs)
 
 check-leaves-requires : tie.Need-check-leaves-requires
 check-leaves-requires c κs = walkable c
@@ -72,14 +73,14 @@ returns-3 c =
     let a = leaves .before .before .before .before .before .before .before .args in
     plan-begun (now (a .plan)) (now (a .work)) (walkable (leaves .before)) (leaves .check-leaves .result) (leaves .check-leaves .ensures)
 
-node-count-requires-2 : tie.Need-node-count-requires-2
-node-count-requires-2 c κs = planned (p (c .before)) (formed (room (c .before) .before .before)) .sizes
+node-count-requires : tie.Need-node-count-requires
+node-count-requires c κs = planned (p (c .before)) (formed (room (c .before) .before .before)) .sizes
 
 returns-4 : tie.Need-returns-4
 returns-4 c =
     let l = c .before .before .before in
     let f = planned (p l) (formed (room l .before .before)) in
-    let e = c .before .node-count2 .ensures in
+    let e = c .before .node-count .ensures in
     (plan-done (p l) (work l) (walkable (room l)) (says l) (c .if3 .taken ∙ e), omega arith)
 
 returns-5 : tie.Need-returns-5
@@ -93,12 +94,11 @@ begin-spec =
     (tie.spec
     (λ c κs. search needs)
     returns
-    node-count-requires
-    mul-if2
+    lacks-slots-requires
     returns-2
     check-leaves-requires
     (λ c. search needs)
     returns-3
-    node-count-requires-2
+    node-count-requires
     returns-4
     returns-5)

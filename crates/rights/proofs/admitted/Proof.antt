@@ -7,7 +7,7 @@ use native.Mathlib.Omega.{arith}
 use lib.ListN.{length}
 use denote.Ref.{now}
 use borrow.Author.Needs.{needs}
-use borrow.Author.Tests.{not-true, not-false}
+use borrow.Author.Tests.{not-true, not-false, ltb-true, ltb-false}
 use Rattle.base.specs.Form.{narrow}
 use Rattle.plan_form.specs.Form.{nodeCount, leafCount}
 use Rattle.plan_form.proofs.FormLaws.{planned}
@@ -44,26 +44,21 @@ module _ (c : tie.Else1) where
   node : NodeOf p (start .args .wanted) × (length owners ≡ ownerBytes * leafCount p)
   node = call-passed p owners (start .args .wanted) passed
 
-node-count-requires : tie.Need-node-count-requires
-node-count-requires c κs = planned (p c) (node c .0 .formed) .sizes
-
-mul-if2 : tie.Need-mul-if2
-mul-if2 c =
-    let f = planned (p (c .before)) (node (c .before) .0 .formed) in
-    omega arith
+lacks-slots-requires : tie.Need-lacks-slots-requires
+lacks-slots-requires c κs = node c .0 .formed
 
 returns-2 : tie.Need-returns-2
 returns-2 c =
     let t = c .before .before in
     let a = start t .args in
-    let e = c .before .node-count .ensures in
-    (λ out. sym (reveal-short (p t) (owners t) (a .reader) (a .wanted) (work t) out (passed t) (omega arith)), search needs)
+    let short = ltb-true (length (work t)) (slotAt narrow (nodeCount (p t))) (sym (c .before .lacks-slots .ensures) ∙ c .if2 .taken) in
+    (λ out. sym (reveal-short (p t) (owners t) (a .reader) (a .wanted) (work t) out (passed t) short), search needs)
 
 -- 27 too
 room : (c : tie.Else2) → slotAt narrow (nodeCount (p (c .before .before))) ≤ length (work (c .before .before))
 room c =
-    let e = c .before .node-count .ensures in
-    omega (arith, c .if2 .left)
+    let t = c .before .before in
+    ltb-false (length (work t)) (slotAt narrow (nodeCount (p t))) (sym (c .before .lacks-slots .ensures) ∙ c .if2 .left)
 
 owners-of-requires : tie.Need-owners-of-requires
 owners-of-requires c κs = node (c .before .before)
@@ -99,8 +94,7 @@ admitted-spec =
     (tie.spec
     (λ c κs. search needs)
     returns
-    node-count-requires
-    mul-if2
+    lacks-slots-requires
     returns-2
     owners-of-requires
     (λ c κs. search needs)
