@@ -34,7 +34,7 @@ fn library(variable: &str) -> Option<PathBuf> {
 fn found(library: &Path) {
     if !library.is_file() {
         fail(&format!(
-            "the proved library {} is missing: run `rt staticlib gate` in the repository's root, or set GATE_LIB_DIR to its folder",
+            "the proved library {} is missing: run `tools/static_library`, or set GATE_LIB_DIR to its folder",
             library.display()
         ));
     }

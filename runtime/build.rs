@@ -13,7 +13,7 @@ fn main() {
     println!("cargo:rerun-if-changed={}", archive.display());
     if !archive.is_file() {
         eprintln!("{} is missing in {}.", ARCHIVE, folder.display());
-        eprintln!("`rt staticlib gate`, run in the repository's root, proves and writes it; `rt` is part of the Rattle kit.");
+        eprintln!("`tools/static_library` in the repository proves and writes it, by `rt` of the Rattle kit.");
         eprintln!("If the library lies in another folder, set GATE_LIB_DIR to that folder.");
         exit(1);
     }
@@ -21,7 +21,7 @@ fn main() {
     println!("cargo:rustc-link-lib=static=gate");
 }
 
-/// GATE_LIB_DIR, else the place where `rt staticlib gate` writes.
+/// GATE_LIB_DIR, else the place where `tools/static_library` writes.
 fn library_folder() -> PathBuf {
     if let Some(folder) = env::var_os("GATE_LIB_DIR") {
         return PathBuf::from(folder);

@@ -1,4 +1,6 @@
 // The stored answers: a line of a list, the call that it asks for, and whether the gate answers as the line says, with every byte of the lent buffer.
+#![tactic(auto)]
+
 mod answer; // what the gate answers, held against the list
 mod single; // a line of the list of calls, and its call
 mod walk; // a line of the list of plans, and its plan call
@@ -12,7 +14,7 @@ pub use answer::{code_of, value_of};
 use base::refusals;
 use lines::Number;
 
-#[derive(Drop)]
+#[derive(Clone, Copy)]
 pub enum Stored {
     Calls,
     Plans,
@@ -31,7 +33,7 @@ impl Stored {
 }
 
 // What a list says of a call or a plan.
-#[derive(Drop)]
+#[derive(Clone, Copy)]
 pub enum Told {
     Accepted,
     // At a step, where it is a plan's.
@@ -60,13 +62,13 @@ impl Told {
 }
 
 // The component, 0 for a plan, and what the list says.
-#[derive(Drop)]
+#[derive(Clone, Copy)]
 pub struct Said {
     pub component: u32,
     pub told: Told,
 }
 
-#[derive(Drop)]
+#[derive(Clone, Copy)]
 pub enum Outcome {
     Comment,
     // Not in the list's form.

@@ -8,7 +8,7 @@ use lines::{Held, Number};
 const FIELDS: usize = 8;
 
 // The numbers of a line, but for the output's length.
-#[derive(Drop)]
+#[derive(Clone, Copy)]
 struct Call {
     component: u32,
     node: u32,

@@ -8,7 +8,7 @@ use lines::{Held, Number};
 const FIELDS: usize = 6;
 
 // The numbers of a line, but for the work buffer's length.
-#[derive(Drop)]
+#[derive(Clone, Copy)]
 struct Call {
     code: u32,
     value: u32,

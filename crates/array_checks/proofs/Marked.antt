@@ -5,7 +5,7 @@
 use Rattle.std.proofs.Common.{◌≡◌, ℕ, ◌+◌, Bool, true, false, cond, not, ◌&&◌, eqb, List, get_or, refl}
 use mathlib.Core.Option.{none, some}
 use lib.Ieee.Scale.{finite}
-use Rattle.bytes.specs.Le.{le_at}
+use Rattle.octets.specs.Le.{le_at}
 use Rattle.numbers.specs.Kind.{Kind}
 use Rattle.base.specs.Decode.{as_float, option_at, end_at}
 use Rattle.base.specs.Checks.{crossed, unbounded}

@@ -1,4 +1,6 @@
 // Checks 4 and 5 of the arrays behind a sheet's head: one pass over each that is not left early.
+#![tactic(auto)]
+
 ghost use Rattle.std.specs.Prelude.{◌≡◌, ◌+◌, ◌≤◌, not, ◌&&◌, ◌||◌, length, ◌==◌};
 ghost use Rattle.std.specs.Float.Ieee.Scale.{finite};
 ghost use Rattle.numbers.specs.Kind.{whole, float};
@@ -13,7 +15,7 @@ use base::form;
 use base::form::Form;
 
 // What a pass finds.
-#[derive(Drop)]
+#[derive(Clone, Copy)]
 pub struct Faults {
     // 4 fails.
     pub fields: bool,

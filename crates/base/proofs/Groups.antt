@@ -12,8 +12,8 @@ use lib.ListN.{length, take, drop, get_or}
 use lib.Seq.{take-add, drop-drop, drop-cons}
 use mir.Syntax.{w64}
 use mir.Facts.{of_z-to_z}
-use Rattle.bytes.specs.Le.{le_at, le_bytes}
-use Rattle.bytes.proofs.Reread.{AllBytes, le_at_below, le_bytes_le_at}
+use Rattle.octets.specs.Le.{le_at, le_bytes}
+use Rattle.octets.proofs.Reread.{AllBytes, le_at_below, le_bytes_le_at}
 use Rattle.utilities.specs.Lists.{list_from}
 use Rattle.utilities.proofs.Built.{list_from_length}
 use Rattle.base.specs.Form.{Form, group_count, partition_at, key_at, entries_at}

@@ -2,12 +2,6 @@
 pub mod Flags
 pub mod Ends
 pub mod Numbers
-pub mod Reader
-pub mod Through
-pub mod ThroughFurther
-pub mod Readings
-pub mod Above
-pub mod Straight
 pub mod Forms
 pub mod Stands
 pub mod Groups

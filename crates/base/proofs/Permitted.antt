@@ -12,7 +12,7 @@ use Prim.Native.Nat.{ℕ, ◌≤◌, ◌<◌}
 use native.Mathlib.Omega.{arith}
 use lib.Dec.{T, eqb, ltb, leb}
 use borrow.Author.Tests.{ltb-true, leb-true, not-false}
-use Rattle.bytes.specs.Le.{le_at}
+use Rattle.octets.specs.Le.{le_at}
 use Rattle.base.specs.Form.{Form, nature_at, last_nature, bool_lists_nature, is_range_nature, group_count, category_count, place, byte_at, columns_mark_at, columns_at, rows_mark_at, rows_at, dataset_mark_at, dataset_at, dimensionality_mark_at, dimensionality_at, sample_mark_at, sample_at}
 use Rattle.base.specs.Decode.{category_at, option_at, fields_in}
 use Rattle.base.specs.Checks.{bytes_permitted, values_permitted, field_permitted, columns_permitted, groups_permitted, area_permitted, number_permitted, value_permitted, lists_permitted, nature_permitted, fields_fail}

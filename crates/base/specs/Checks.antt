@@ -2,7 +2,7 @@
 use Rattle.std.specs.Prelude.{Bool, true, false, cond, not, ◌&&◌, ◌||◌, List, [], ◌∷◌, ℕ, zero, suc, ◌+◌, ◌-◌, ℤ, length, get_or, eqb, leb, ltb, Float}
 use Rattle.std.proofs.Math.Option.{Option, none, some}
 use Rattle.std.specs.Float.Ieee.Scale.{finite}
-use Rattle.bytes.specs.Le.{le_at}
+use Rattle.octets.specs.Le.{le_at}
 use Rattle.numbers.specs.Result.{Result, ok, Check, check, checked}
 use Rattle.numbers.specs.Kind.{Kind, Span, whole, float}
 use Rattle.utilities.specs.Lists.{every}

@@ -5,7 +5,7 @@ use Rattle.std.specs.Float.{binary64}
 use Rattle.std.specs.Float.Ieee.{to_bits}
 use Rattle.std.specs.Int.{w64}
 use Rattle.std.proofs.Common.{of_z}
-use Rattle.bytes.specs.Le.{le_bytes}
+use Rattle.octets.specs.Le.{le_bytes}
 use Rattle.numbers.specs.Kind.{Span}
 use Rattle.base.specs.Form.{Form, place, later_count, fields_end, absent_nature, whole_range_nature, float_range_nature, whole_lists_nature, bool_lists_nature, float_lists_nature, text_lists_nature}
 use Rattle.base.specs.Sheet.{Group, Nature, absent, whole_range, float_range, whole_lists, bool_lists, float_lists, text_lists, Fields, Sheet}

@@ -1,6 +1,6 @@
 -- The stored form of a sheet: limits, widths and places, all in this one module. 01: "The sheet, bytes little-endian".
 use Rattle.std.specs.Prelude.{Bool, cond, ◌||◌, List, ◌≡◌, ℕ, ◌+◌, ◌*◌, ◌≤◌, ◌<◌, ◌^◌, get_or, eqb}
-use Rattle.bytes.specs.Le.{le_at}
+use Rattle.octets.specs.Le.{le_at}
 use Rattle.base.specs.declared.form.Form.{Form as Named}
 use Rattle.base.specs.declared.form.Form.TheVariants as N
 

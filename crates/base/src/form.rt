@@ -108,7 +108,7 @@ pub fn is_range(nature: u8) -> bool
 // ---- what a form has of its own
 
 // A stored form: 01's, and the wider one of 02, S-10, which no call takes yet.
-#[derive(Drop)]
+#[derive(Clone, Copy)]
 pub enum Form {
     Narrow,
     Wide,

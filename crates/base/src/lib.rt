@@ -1,7 +1,9 @@
 // The sheet: its form, its readers, its records, and the components by their numbers.
+#![tactic(auto)]
+
 ghost use Rattle.std.specs.Prelude.{◌≡◌, ◌+◌, ◌≤◌, ◌<◌, length, get_or};
-ghost use Rattle.bytes.specs.Le.{le_at};
-ghost use Rattle.bytes.specs.Wrote.{Wrote};
+ghost use Rattle.octets.specs.Le.{le_at};
+ghost use Rattle.octets.specs.Wrote.{Wrote};
 ghost use Rattle.base.specs.Form.{form_of, place, byte_at, nature_at, node_at, fields_end, area_size, length_called_for};
 ghost use Rattle.base.specs.Decode.{as_whole, as_float, as_bits, flag_at, field_at, list_number, fields_in};
 ghost use Rattle.base.specs.Components.{number_of, component_of, family_of, is_unary};
@@ -15,7 +17,7 @@ mod view; // one view of a sheet's bytes
 use form::Form;
 
 // 01: "A bound is absent, a whole number or a float".
-#[derive(Drop)]
+#[derive(Clone, Copy)]
 pub enum Bound {
     Absent,
     Whole(i64),
@@ -23,21 +25,21 @@ pub enum Bound {
 }
 
 // A value of 64 signed bits that may be absent.
-#[derive(Drop)]
+#[derive(Clone, Copy)]
 pub enum OptionI64 {
     Absent,
     Is(i64),
 }
 
 // A value of 64 bits that may be absent.
-#[derive(Drop)]
+#[derive(Clone, Copy)]
 pub enum OptionU64 {
     Absent,
     Is(u64),
 }
 
 // The fields of one value.
-#[derive(Drop)]
+#[derive(Clone, Copy)]
 pub struct Head {
     pub data_type: u8,
     pub nullity: bool,
@@ -54,14 +56,14 @@ pub struct Head {
 }
 
 // The sizes that a sheet begins with.
-#[derive(Drop)]
+#[derive(Clone, Copy)]
 pub struct Sizes {
     pub groups: usize,
     pub lists: usize,
     pub categories: usize,
 }
 
-#[derive(Drop)]
+#[derive(Clone, Copy)]
 pub enum Component {
     Abs,
     Add,
@@ -76,7 +78,7 @@ pub enum Component {
 }
 
 // The components by the sheets that they read, the order of their checks and the fields that they derive.
-#[derive(Drop)]
+#[derive(Clone, Copy)]
 pub enum Family {
     // Abs and Negative, which read left alone.
     Unary,
@@ -89,7 +91,7 @@ pub enum Family {
 }
 
 // What a number names: a component, or none.
-#[derive(Drop)]
+#[derive(Clone, Copy)]
 pub enum Numbered {
     Is(Component),
     Unlisted,
@@ -244,16 +246,16 @@ pub fn put_bound(buf: &mut [u8], at: usize, b: Bound) -> usize
 {
     match b {
         Bound::Absent => {
-            let next = bytes::put_u8(buf, at, 0);
-            bytes::put_u64(buf, next, 0)
+            let next = octets::put_u8(buf, at, 0);
+            octets::put_u64(buf, next, 0)
         }
         Bound::Whole(z) => {
-            let next = bytes::put_u8(buf, at, 1);
-            bytes::put_i64(buf, next, z)
+            let next = octets::put_u8(buf, at, 1);
+            octets::put_i64(buf, next, z)
         }
         Bound::Float(x) => {
-            let next = bytes::put_u8(buf, at, 1);
-            bytes::put_f64(buf, next, x)
+            let next = octets::put_u8(buf, at, 1);
+            octets::put_f64(buf, next, x)
         }
     }
 }
@@ -406,7 +408,7 @@ pub fn list_number(f: Form, s: &[u8], g: usize, n: usize, t: usize, i: usize) ->
 {
     let start = f.entries_at(g);
     match f {
-        Form::Narrow => bytes::wide(byte_at(s, start + form::NARROW_NUMBER_WIDTH * i)),
+        Form::Narrow => octets::wide(byte_at(s, start + form::NARROW_NUMBER_WIDTH * i)),
         Form::Wide => u16_at(s, start + form::WIDE_NUMBER_WIDTH * i),
     }
 }

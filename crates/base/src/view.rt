@@ -1,13 +1,13 @@
 // 01: "A sheet is read through one view of its bytes". The borrow checker covers no function over a struct that holds a
 // slice, so each is proved by hand; each leaves the work to a covered function of the slice and an offset.
 ghost use Rattle.std.specs.Prelude.{◌≡◌, ◌+◌, ◌≤◌, ◌<◌, length, get_or};
-ghost use Rattle.bytes.specs.Le.{le_at};
+ghost use Rattle.octets.specs.Le.{le_at};
 ghost use Rattle.base.specs.Decode.{as_whole, as_float};
 ghost use Rattle.base.specs.Code.{bound_at};
 
 use crate::Bound;
 
-#[derive(Drop)]
+#[derive(Clone, Copy)]
 pub struct SheetView<'a> {
     pub bytes: &'a [u8],
 }
@@ -32,7 +32,7 @@ fn size_at(s: &[u8], at: usize) -> usize
     requires { at + 2 ≤ length s.now }
     ensures { result ≡ le_at 2 at s.now }
 {
-    bytes::u16_at(s, at) as usize
+    octets::u16_at(s, at) as usize
 }
 
 // A bound: a mark, and 64 bits that are a float's or a signed number's.
@@ -44,9 +44,9 @@ fn bound_at(s: &[u8], float: bool, at: usize) -> Bound
         return Bound::Absent;
     }
     if float {
-        Bound::Float(bytes::f64_at(s, at + 1))
+        Bound::Float(octets::f64_at(s, at + 1))
     } else {
-        Bound::Whole(bytes::i64_at(s, at + 1))
+        Bound::Whole(octets::i64_at(s, at + 1))
     }
 }
 
@@ -70,28 +70,28 @@ pub fn u32_in<'a>(v: SheetView<'a>, at: usize) -> u32
     requires { at + 4 ≤ length v.bytes.now }
     ensures { result ≡ le_at 4 at v.entry.bytes.now }
 {
-    bytes::u32_at(v.bytes, at)
+    octets::u32_at(v.bytes, at)
 }
 
 pub fn i64_in<'a>(v: SheetView<'a>, at: usize) -> i64
     requires { at + 8 ≤ length v.bytes.now }
     ensures { result ≡ as_whole (le_at 8 at v.entry.bytes.now) }
 {
-    bytes::i64_at(v.bytes, at)
+    octets::i64_at(v.bytes, at)
 }
 
 pub fn u64_in<'a>(v: SheetView<'a>, at: usize) -> u64
     requires { at + 8 ≤ length v.bytes.now }
     ensures { result ≡ le_at 8 at v.entry.bytes.now }
 {
-    bytes::u64_at(v.bytes, at)
+    octets::u64_at(v.bytes, at)
 }
 
 pub fn f64_in<'a>(v: SheetView<'a>, at: usize) -> f64
     requires { at + 8 ≤ length v.bytes.now }
     ensures { result ≡ as_float (le_at 8 at v.entry.bytes.now) }
 {
-    bytes::f64_at(v.bytes, at)
+    octets::f64_at(v.bytes, at)
 }
 
 pub fn bound_in<'a>(v: SheetView<'a>, float: bool, at: usize) -> Bound

@@ -1,4 +1,6 @@
 // What the ends of a range are asked: by Modulo, Log and Power before they derive, and by Divide for its nullity.
+#![tactic(auto)]
+
 ghost use Rattle.std.specs.Prelude.{◌≡◌, false, not, ◌<◌};
 ghost use Rattle.numbers.specs.Kind.{span_of, whole, float};
 ghost use Rattle.base.specs.Form.{form_of};
@@ -17,7 +19,7 @@ use base::{Bound, form};
 pub mod zero; // the nullity that Divide adds
 
 // The question, one for every entry.
-#[derive(Drop)]
+#[derive(Clone, Copy)]
 enum Ask {
     LowerPresent,
     UpperPresent,

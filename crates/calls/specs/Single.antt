@@ -1,6 +1,6 @@
 -- The single call, from bytes to bytes. 01: "What a call hands back, and why it says no".
 use Rattle.std.specs.Prelude.{cond, List, ℕ, ◌+◌, ◌*◌, ◌^◌, length, leb}
-use Rattle.bytes.specs.Deliver.{delivered}
+use Rattle.octets.specs.Deliver.{delivered}
 use Rattle.numbers.specs.Result.{Result, ok, refused, and_then}
 use Rattle.base.specs.Form.{Form}
 use Rattle.base.specs.Sheet.{Sheet}

@@ -1,4 +1,6 @@
 // Categories combined by Add, Subtract, Multiply and Divide: from the lists of two sheets, the lists of the result, written into two lent buffers.
+#![tactic(auto)]
+
 ghost use Rattle.std.specs.Prelude.{◌≡◌, false, ◌≤◌, ◌<◌};
 ghost use Rattle.numbers.specs.Kind.{eq_z};
 ghost use Rattle.base.specs.Form.{form_of, list_count};

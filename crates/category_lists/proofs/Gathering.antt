@@ -17,7 +17,7 @@ use lib.ListN.{length, take, drop, get_or, length-append, drop_of_length-le}
 use lib.Seq.{drop-cons, length-take-le}
 use lib.Dec.{ltb}
 use borrow.Author.Tests.{ltb-true, ltb-false, lt-ltb, le-ltb}
-use Rattle.bytes.specs.Le.{le_bytes}
+use Rattle.octets.specs.Le.{le_bytes}
 use Rattle.numbers.specs.Result.{Result, ok, refused}
 use Rattle.utilities.specs.Lists.{has, noted}
 use Rattle.utilities.proofs.Firsts.{noted_new, noted_keeps}

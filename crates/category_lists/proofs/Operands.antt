@@ -32,7 +32,7 @@ module _ {F : Form} {s : List ℕ} (l : Listed F s) where
   listed_within = (passed F s l.passed).lists_within
 
   pub listed_fits : {r : Sizes} → SizesIn F s r → ListsFit F s r.groups r.lists r.categories
-  listed_fits a = lists_fit (sized F s l.passed a) l.no-range
+  listed_fits a = lists_fit (sized F s l.passed a) l.no_range
 
 module _ (F : Form) (s : List ℕ) where
   pub lists_length : {X : Type 0} (read : ℕ → X) → length (lists F s read) ≡ list_count F s

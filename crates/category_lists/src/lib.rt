@@ -1,4 +1,6 @@
 // Categories: their rules, the lists of a sheet column by column, and the lists of a result written into two lent buffers.
+#![tactic(auto)]
+
 ghost use Rattle.std.specs.Prelude.{◌≡◌, List, [], ℕ, ◌+◌, ◌*◌, ◌^◌, ◌≤◌, ◌<◌, ℤ, length, take, get_or};
 ghost use Rattle.numbers.specs.Result.{Result, ok};
 ghost use Rattle.numbers.specs.Kind.{fitting, eq_z};
@@ -140,7 +142,7 @@ pub fn append_list(
     let mut i: usize = 0;
     while i < k {
         at = writer::put_number(f, numbers, at, j);
-        place = bytes::put_i64(values, place, store[i]);
+        place = octets::put_i64(values, place, store[i]);
         i += 1;
     }
     t + k

@@ -1,4 +1,6 @@
 // Categories mapped by Abs and Negative: from the lists of one sheet, the lists of the result, written into two lent buffers.
+#![tactic(auto)]
+
 ghost use Rattle.std.specs.Prelude.{◌≡◌, true, ◌≤◌, ◌<◌};
 ghost use Rattle.numbers.specs.Kind.{eq_z};
 ghost use Rattle.base.specs.Form.{form_of, list_count};

@@ -9,7 +9,7 @@ use Prim.Native.Nat.{ℕ, ◌+◌, ◌<◌}
 use native.Mathlib.Omega.{arith}
 use lib.ListN.{get_or}
 use lib.Dec.{eqb, leb, ltb}
-use Rattle.bytes.specs.Le.{le_at}
+use Rattle.octets.specs.Le.{le_at}
 use Rattle.base.specs.Form.{Form, place, byte_at, nature_at, type_at, nullity_at, releasable_at, not_empty_at, ordered_at, sample_mark_at, reserved_at, area_size_at, later_at, later_count, last_nature, last_type, category_count, area_size}
 use Rattle.base.specs.Checks.{holds_from, flag_permitted, gap_permitted, bytes_permitted, values_permitted, groups_permitted, end_to_end, area_permitted, nature_permitted, fields_fail}
 use Rattle.checks.specs.Found.{is_text, tail_permitted, head_fault, texts_permitted}

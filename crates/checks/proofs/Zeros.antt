@@ -11,7 +11,7 @@ use native.Mathlib.Omega.{arith}
 use lib.ListN.{get_or}
 use lib.Dec.{eqb, ltb, eqb-suc-zero}
 use borrow.Author.Tests.{ne_eqb, lt-ltb, le-ltb}
-use Rattle.bytes.specs.Le.{le_at}
+use Rattle.octets.specs.Le.{le_at}
 use Rattle.base.specs.Checks.{holds_from}
 
 -- a number is 0 where its lowest byte and the rest are

@@ -1,4 +1,6 @@
 // Checks 3 to 5 of a sheet. Each test is computed whole, without a branch where it has no loop: a sheet that passes has every test made anyway.
+#![tactic(auto)]
+
 ghost use Rattle.std.specs.Prelude.{◌≡◌, false, ◌+◌, ◌≤◌, ◌<◌, eqb, length};
 ghost use Rattle.base.specs.Form.{form_of, byte_at, later_at, later_count, fields_end};
 ghost use Rattle.base.specs.Checks.{read, holds_from, sizes_fail, field_permitted, gap_permitted, values_permitted, columns_permitted, key_permitted, groups_permitted};

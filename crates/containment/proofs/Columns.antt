@@ -72,7 +72,7 @@ pub record Columnwise {X Y : Type 0} (rule : X → X → Result Y) (columns : �
 pub column_keeps : {X Y : Type 0} {rule : X → X → Result Y} {ex ey : Option X} {ez : Option Y} (P Q : Option X → Type 0) (R : Option Y → Type 0)
     → ((x y : X) (z : Y) → rule x y ≡ ok z → P (some x) → Q (some y) → R (some z)) → Column rule ex ey ez → P ex → Q ey → R ez
 column_keeps P Q R law c p q =
-    subst R (sym c.is-value) (law c.left c.right c.value c.holds (subst P c.is-left p) (subst Q c.is_right q))
+    subst R (sym c.is_value) (law c.left c.right c.value c.holds (subst P c.is_left p) (subst Q c.is_right q))
 
 module _ {X Y : Type 0} (rule : X → X → Result Y) where
   pairs_at : (us vs : List X) {zs : List Y} → each_pair rule us vs ≡ ok zs → length us ≡ length vs
@@ -100,9 +100,9 @@ module _ {X Y : Type 0} (rule : X → X → Result Y) where
         left = r.left;
         right = r.right;
         value = r.value;
-        is_left = r.is-left;
+        is_left = r.is_left;
         is_right = r.is_right;
-        is_value = sym (ap (λ (l : List Y). get_elem? l (suc j)) (ok_same t.after)) ∙ r.is-value;
+        is_value = sym (ap (λ (l : List Y). get_elem? l (suc j)) (ok_same t.after)) ∙ r.is_value;
         holds = r.holds;
       }
 
@@ -124,9 +124,9 @@ module _ {X Y : Type 0} (rule : X → X → Result Y) where
             left = r.left;
             right = r.right;
             value = r.value;
-            is_left = sym (repeated_entry columns xs j o h) ∙ r.is-left;
+            is_left = sym (repeated_entry columns xs j o h) ∙ r.is_left;
             is_right = sym (repeated_entry columns ys j p h) ∙ r.is_right;
-            is_value = entry_full zs j (omega arith) ∙ r.is-value;
+            is_value = entry_full zs j (omega arith) ∙ r.is_value;
             holds = r.holds;
           }
 

@@ -29,7 +29,7 @@ use Rattle.base.proofs.Permitted.{permitted, columns_within_lem}
 use Rattle.shape.specs.Shape.{columns_of}
 use Rattle.shape.specs.Fields.{with_node, numbered}
 use Rattle.calls.specs.Derive.{derive}
-use Rattle.bytes.proofs.Reread.{AllBytes}
+use Rattle.octets.proofs.Reread.{AllBytes}
 use Rattle.plan_form.specs.Form.{node_count, leaf_count, component_number, left_of, right_of}
 use Rattle.calls.specs.Walk.{sheet_in, plan}
 use Rattle.containment.specs.Exact.{Side, Row, Results, exact_of, column_of, leaf_results, step_results, node_results, results_of}

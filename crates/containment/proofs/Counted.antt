@@ -72,7 +72,7 @@ module _ {p work after : List ℕ} (a : Accepted p work after) where
         let both = pairs_counted narrow d.component (sheet (left_of p k)) (sheet (right_of p k)) d.sheet u derived c.left c.right in
         let Own : ℕ → Type 0 = λ n. Passes d.sheet.fields.columns (sheet n).nature in
         let own : Own leaf = ⊎_elim (λ i. subst Own i both.0) (λ i. subst Own i both.1) c.reads in
-        let columns = ap (λ (f : Fields). f.columns) (sym step_fields) ∙ c.own-columns in
+        let columns = ap (λ (f : Fields). f.columns) (sym step_fields) ∙ c.own_columns in
         subst (λ (o : Option ℕ). Passes o (sheet leaf).nature) columns own
 
     spreads_own : (f : Family) → family_of d.component ≡ f → is_lists (sheet leaf).nature ≡ true → SpreadsBy p sheet leaf k f → Passes (sheet leaf).fields.columns (sheet leaf).nature

@@ -33,7 +33,7 @@ use Rattle.step_laws.specs.Examples.{slots_of}
 use Rattle.step_laws.specs.Shelf.{minus}
 use Rattle.calls.specs.Single.{Outcome, outcome}
 use Rattle.round_trip.specs.WellFormed.{Each}
-use Rattle.bytes.proofs.Reread.{AllBytes}
+use Rattle.octets.proofs.Reread.{AllBytes}
 use Rattle.plan_form.specs.Form.{node_count, leaf_count, step_count, component_number, left_of, right_of, plan_fails, step_permitted}
 use Rattle.calls.specs.Walk.{plan, walk, step_on, sheet_in, leaves_then, leaf_nodes, step_nodes}
 use Rattle.containment.specs.Exact.{Side, Row, Results, exact, results_of, result_at}

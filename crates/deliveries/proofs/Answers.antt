@@ -34,7 +34,7 @@ pub room :
     → Room F p first second source buf
 room {F} {source = source} z e b =
     let g = (passed F source e).groups_within in
-    record { sized = e; first_held = z.first-held; second_held = z.second-held; entries_fit = z.entries; values_fit = z.values; text_fits = z.text; sheet_fits = omega arith }
+    record { sized = e; first_held = z.first_held; second_held = z.second_held; entries_fit = z.entries; values_fit = z.values; text_fits = z.text; sheet_fits = omega arith }
 
 -- and the sheet that is written ends within it
 pub bounded :

@@ -1,7 +1,7 @@
 -- What a step left at the start of a buffer, and what becomes of it.
 use Rattle.std.specs.Prelude.{List, ℕ, ◌≤◌, take}
-use Rattle.bytes.specs.declared.Put.{Put}
-use Rattle.bytes.specs.declared.Put.TheVariants as U
+use Rattle.octets.specs.declared.Put.{Put}
+use Rattle.octets.specs.declared.Put.TheVariants as U
 use Rattle.numbers.specs.Result.{Result, ok, refused}
 use Rattle.calls.specs.Single.{Outcome, outcome}
 

@@ -1,10 +1,12 @@
 // The delivery of a derived sheet into a lent buffer, and 27.
+#![tactic(auto)]
+
 ghost use Rattle.std.specs.Prelude.{◌≡◌, length};
 ghost use Rattle.calls.specs.Single.{delivery};
 ghost use Rattle.deliveries.specs.Code.{step_in, Held, given};
 
 use base::refusals;
-use bytes::Put;
+use octets::Put;
 
 // Delivers what a step left at the start of `scratch`, or refuses with 27. A refusal leaves every byte of `out` as it was.
 pub fn deliver_sheet(put: Put, scratch: &[u8], out: &mut [u8]) -> Put
@@ -14,7 +16,7 @@ pub fn deliver_sheet(put: Put, scratch: &[u8], out: &mut [u8]) -> Put
     match put {
         Put::Refused(k) => Put::Refused(k),
         Put::At(n) => {
-            if bytes::deliver(out, scratch, n) {
+            if octets::deliver(out, scratch, n) {
                 return Put::At(n);
             }
             Put::Refused(refusals::NO_ROOM)

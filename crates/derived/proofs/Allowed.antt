@@ -8,8 +8,8 @@ use native.Mathlib.Omega.{arith}
 use lib.Dec.{eqb, leb, ltb}
 use lib.ListN.{get_or}
 use borrow.Author.Tests.{eq-eqb, eqb-true, ltb-true, leb-true}
-use Rattle.bytes.specs.Le.{le_at}
-use Rattle.bytes.proofs.Reread.{AllBytes}
+use Rattle.octets.specs.Le.{le_at}
+use Rattle.octets.proofs.Reread.{AllBytes}
 use Rattle.base.specs.Form.{Form, group_count, list_count, category_count, byte_at, nature_at, type_at, last_type, whole_range_nature, float_range_nature, whole_lists_nature, bool_lists_nature, float_lists_nature, text_lists_nature, bool_key, last_key, key_at}
 use Rattle.base.specs.Sheet.{whole_range, float_range, whole_lists, bool_lists, float_lists, text_lists, absent}
 use Rattle.base.specs.Decode.{as_whole, as_float, as_bits, prepended, group_at, list_number, category_at, list_at, entries, lists, text_in, nature_in, fields_in, groups_in, decode}

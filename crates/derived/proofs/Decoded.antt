@@ -15,8 +15,8 @@ use lib.Ieee.Bits.{of_bits-fits}
 use lib.ListN.{length, get_or, drop}
 use mir.Syntax.{w64}
 use mir.Facts.{sfits_to_z}
-use Rattle.bytes.specs.Le.{le_at}
-use Rattle.bytes.proofs.Reread.{AllBytes, le_at_below}
+use Rattle.octets.specs.Le.{le_at}
+use Rattle.octets.proofs.Reread.{AllBytes, le_at_below}
 use Rattle.numbers.specs.Result.{ok}
 use Rattle.utilities.proofs.Built.{list_from_length}
 use Rattle.base.specs.Form.{Form, Laid, nature_at, byte_at, group_count, list_count, category_count, whole_range_nature, float_range_nature, whole_lists_nature, bool_lists_nature, float_lists_nature, text_lists_nature, area_at}

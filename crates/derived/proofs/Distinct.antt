@@ -8,7 +8,7 @@ use mathlib.Core.Bool.{true, false}
 use mathlib.Core.List.{List, [], ◌∷◌, ◌++◌}
 use Prim.Native.Nat.{ℕ, ◌^◌, ◌<◌}
 use lib.IntN.{pos}
-use Rattle.bytes.proofs.Reread.{AllBytes}
+use Rattle.octets.proofs.Reread.{AllBytes}
 use Rattle.numbers.specs.Result.{Result, ok}
 use Rattle.numbers.specs.Kind.{whole, float}
 use Rattle.utilities.specs.Lists.{every, distinct}

@@ -4,7 +4,7 @@
 --     encoded_read         both
 -- Assumes nothing.
 use mathlib.Core.Path.{◌≡◌, refl, sym, ap, subst, ◌∙◌}
-use mathlib.Core.Bool.{Bool, true, false, not, ◌||◌, ◌&&◌, or_true}
+use mathlib.Core.Bool.{Bool, true, false, not, ◌||◌, ◌&&◌, or-true}
 use mathlib.Core.List.{List, [], ◌∷◌, ◌++◌, append-nil}
 use mathlib.Core.Option
 use mathlib.Core.Option.{Option, none, some}
@@ -15,8 +15,8 @@ use lib.Dec.{eqb, leb, ltb}
 use lib.IntN.{ℤ}
 use lib.ListN.{length, get_or, replicate, length-append}
 use borrow.Author.Tests.{eq-eqb, eqb-true, lt-ltb, le-ltb, le-leb, leb-true}
-use Rattle.bytes.specs.Le.{le_at, le_bytes}
-use Rattle.bytes.proofs.Widths.{length_le_bytes}
+use Rattle.octets.specs.Le.{le_at, le_bytes}
+use Rattle.octets.proofs.Widths.{length_le_bytes}
 use Rattle.numbers.specs.Kind.{Span}
 use Rattle.base.specs.Form.{Form, Laid, group_count, list_count, category_count, place, byte_at, nature_at, type_at, nullity_at, releasable_at, not_empty_at, ordered_at, rows_mark_at, columns_mark_at, dataset_mark_at, dimensionality_mark_at, sample_mark_at, reserved_at, later_at, later_count, fields_end, rows_at, columns_at, dataset_at, dimensionality_at, sample_at, last_nature, last_type, bool_key, last_key, key_at, entries_at, lower_at, upper_at, number_at, value_at, area_size, length_called_for}
 use Rattle.base.specs.Sheet.{Group, Nature, absent, whole_range, float_range, whole_lists, bool_lists, float_lists, text_lists, Fields, Sheet}
@@ -95,7 +95,7 @@ module _ (F : Form) (t : List ℕ) (g : ℕ) where
       let bytes = le_bytes 8 (whole_bits x.index) in
       let kind = byte_back (standing_left (x.kind ∷ []) bytes h) in
       let index = number_back 8 (standing_right (x.kind ∷ []) bytes h refl) (whole.below x.index fit.index) in
-      rw (kind, index, lt-ltb 0 x.kind k.some-kind, le-leb x.kind last_key k.last-kind) (go (eqb x.kind bool_key) refl)
+      rw (kind, index, lt-ltb 0 x.kind k.some_kind, le-leb x.kind last_key k.last_kind) (go (eqb x.kind bool_key) refl)
     where
       go : (b : Bool) → eqb x.kind bool_key ≡ b → (not b || leb (whole_bits x.index) 1) ≡ true
       go true e = le-leb (whole_bits x.index) 1 (k.bool (eqb-true x.kind bool_key e))
@@ -156,7 +156,7 @@ module _ {X : Type 0} (bits : X → ℕ) (Q : X → Type 0) (F : Form) (t : List
   Follows m i = (eqb i 0 || leb (number_of (i - 1)) m) ≡ true
 
   follows_own : (m i : ℕ) → number_of i ≡ m → Follows m (i + 1)
-  follows_own m i e = rw (add-sub_cancel i 1, e, le-leb m m (omega arith)) (or_true (eqb (i + 1) 0))
+  follows_own m i e = rw (add-sub_cancel i 1, e, le-leb m m (omega arith)) (or-true (eqb (i + 1) 0))
 
   follows_later : (m i : ℕ) → Follows m i → Follows (m + 1) i
   follows_later m i = go (eqb i 0)

@@ -9,8 +9,8 @@ use native.Mathlib.Nat.{zero-add, suc-add, add-zero}
 use native.Mathlib.Omega.{arith}
 use lib.ListN.{length, length-append}
 use borrow.Author.Tests.{eq-eqb}
-use Rattle.bytes.specs.Le.{le_bytes}
-use Rattle.bytes.proofs.Widths.{length_le_bytes}
+use Rattle.octets.specs.Le.{le_bytes}
+use Rattle.octets.proofs.Widths.{length_le_bytes}
 use Rattle.base.specs.Form.{Form, group_count, category_count, entries_at, value_at, area_size}
 use Rattle.base.specs.Decode.{as_bits, category_at}
 use Rattle.base.specs.Encode.{joined, total, text_of, area_of, spot, spots_of, spots_from, list_bytes, numbers_from, lists_bytes}

@@ -11,7 +11,7 @@ use Prim.Native.Nat.{ℕ, ◌^◌}
 use native.Mathlib.Omega.{arith}
 use lib.Dec.{eqb, ltb}
 use lib.Ieee.{binary64, fits}
-use lib.Ieee.Fits.{neg_fits, add-fits, sub-fits, mul-fits, div-fits}
+use lib.Ieee.Fits.{neg-fits, add-fits, sub-fits, mul-fits, div-fits}
 use lib.IntN.{ℤ, nat_abs}
 use lib.Signed.{mag, quot_z}
 use borrow.Author.Tests.{ltb-true, not-true}
@@ -88,7 +88,7 @@ unfolding fits
 float_fits = record {
   keep = λ a p. p;
   zero = tt;
-  neg = neg_fits binary64;
+  neg = neg-fits binary64;
   add = λ a b p q. add-fits binary64 a b;
   sub = λ a b p q. sub-fits binary64 a b;
   mul = λ a b p q. mul-fits binary64 a b;

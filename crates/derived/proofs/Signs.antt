@@ -11,8 +11,8 @@ use Prim.Native.Nat.{ℕ}
 use lib.Ieee as Ieee
 use lib.Ieee.{Float, binary64}
 use borrow.Author.Tests.{not-false}
-use Rattle.bytes.proofs.Reread.{AllBytes}
-use Rattle.bytes.proofs.SignBit.{flip_bits}
+use Rattle.octets.proofs.Reread.{AllBytes}
+use Rattle.octets.proofs.SignBit.{flip_bits}
 use Rattle.numbers.specs.Result.{ok}
 use Rattle.numbers.specs.Kind.{Span, span_of, float}
 use Rattle.utilities.specs.Lists.{every}

@@ -8,7 +8,7 @@ use mathlib.Core.Bool.{Bool, true, false, cond}
 use mathlib.Core.List.{List}
 use Prim.Native.Nat.{ℕ, ◌^◌, ◌<◌}
 use lib.Dec.{T}
-use Rattle.bytes.proofs.Reread.{AllBytes}
+use Rattle.octets.proofs.Reread.{AllBytes}
 use Rattle.numbers.specs.Result.{Result, ok, and_then}
 use Rattle.base.specs.Form.{Form, Laid}
 use Rattle.base.specs.Sheet.{Sheet}

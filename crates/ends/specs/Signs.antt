@@ -5,7 +5,7 @@ use Rattle.std.proofs.Math.Option.{Option, none, some}
 use Rattle.std.specs.Float.Ieee as Ieee
 use Rattle.std.specs.Float.{binary64}
 use Rattle.std.specs.Float.Ieee.{is_nan}
-use Rattle.bytes.specs.SignBit.{flip}
+use Rattle.octets.specs.SignBit.{flip}
 use Rattle.numbers.specs.Result.{Result, ok, and_then}
 use Rattle.numbers.specs.Kind.{Span, span_of, float}
 use Rattle.base.specs.Encode.{float_bits}

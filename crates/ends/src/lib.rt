@@ -1,4 +1,6 @@
 // What the end rules of whole ranges and of float ranges share.
+#![tactic(auto)]
+
 ghost use Rattle.std.specs.Prelude.{◌≡◌};
 ghost use Rattle.base.specs.Code.{whole_end, float_end};
 ghost use Rattle.ends.specs.Code.{absent_ends, both_ends, two_of, whole_pair, float_pair};
@@ -6,35 +8,35 @@ ghost use Rattle.ends.specs.Code.{absent_ends, both_ends, two_of, whole_pair, fl
 use base::Bound;
 
 // An entry of a range.
-#[derive(Drop)]
+#[derive(Clone, Copy)]
 pub struct Range {
     pub lower: Bound,
     pub upper: Bound,
 }
 
 // An end, or the number of the refusal.
-#[derive(Drop)]
+#[derive(Clone, Copy)]
 pub enum End {
     Is(Bound),
     Refused(u32),
 }
 
 // Both ends, or the number of the refusal.
-#[derive(Drop)]
+#[derive(Clone, Copy)]
 pub enum Ends {
     Are(Range),
     Refused(u32),
 }
 
 // Two whole numbers of which both are present.
-#[derive(Drop)]
+#[derive(Clone, Copy)]
 pub enum WholePair {
     Both(i64, i64),
     Missing,
 }
 
 // Two floats of which both are present.
-#[derive(Drop)]
+#[derive(Clone, Copy)]
 pub enum FloatPair {
     Both(f64, f64),
     Missing,

@@ -1,4 +1,6 @@
 // Document 01's shelf examples and traps, and Pool, Subtract of ranges, counted category lists and lists without repeats of document 02: sheets are built, the gate derives, and what its output says is written with both signs.
+#![tactic(auto)]
+
 mod sheet; // operands
 mod show; // what bytes say
 

@@ -15,7 +15,7 @@ const NODE: u8 = 7;
 const DATASET: u8 = 8;
 
 // The lower and the upper end of a range.
-#[derive(Drop)]
+#[derive(Clone, Copy)]
 pub struct Ends(pub Bound, pub Bound);
 
 pub(crate) fn whole(a: i64, c: i64) -> Ends
@@ -28,27 +28,27 @@ pub(crate) fn whole(a: i64, c: i64) -> Ends
 fn head(s: &mut [u8], nature: u8, lists: u8, columns: u8)
     requires { longest narrow ≤ length s.old }
 {
-    bytes::put_u8(s, LISTS_AT, lists);
-    bytes::put_u8(s, form::NATURE_AT, nature);
-    bytes::put_u8(s, form::TYPE_AT, form::INT_TYPE);
-    bytes::put_u8(s, form::RELEASABLE_AT, 1);
+    octets::put_u8(s, LISTS_AT, lists);
+    octets::put_u8(s, form::NATURE_AT, nature);
+    octets::put_u8(s, form::TYPE_AT, form::INT_TYPE);
+    octets::put_u8(s, form::RELEASABLE_AT, 1);
     rows(s, 1);
-    bytes::put_u8(s, form::COLUMNS_MARK_AT, 1);
-    bytes::put_u8(s, form::COLUMNS_AT, columns);
+    octets::put_u8(s, form::COLUMNS_MARK_AT, 1);
+    octets::put_u8(s, form::COLUMNS_AT, columns);
     node(s, NODE);
 }
 
 pub(crate) fn node(s: &mut [u8], n: u8)
     requires { longest narrow ≤ length s.old }
 {
-    bytes::put_u8(s, form::NODE_AT, n);
+    octets::put_u8(s, form::NODE_AT, n);
 }
 
 fn rows(s: &mut [u8], n: u8)
     requires { longest narrow ≤ length s.old }
 {
-    bytes::put_u8(s, form::ROWS_MARK_AT, 1);
-    bytes::put_u8(s, form::ROWS_AT, n);
+    octets::put_u8(s, form::ROWS_MARK_AT, 1);
+    octets::put_u8(s, form::ROWS_AT, n);
 }
 
 // Not releasable, of one dataset.
@@ -56,9 +56,9 @@ pub(crate) fn private(s: &mut [u8], n: u8)
     requires { longest narrow ≤ length s.old }
 {
     rows(s, n);
-    bytes::put_u8(s, form::RELEASABLE_AT, 0);
-    bytes::put_u8(s, form::DATASET_MARK_AT, 1);
-    bytes::put_u8(s, form::DATASET_AT, DATASET);
+    octets::put_u8(s, form::RELEASABLE_AT, 0);
+    octets::put_u8(s, form::DATASET_MARK_AT, 1);
+    octets::put_u8(s, form::DATASET_AT, DATASET);
 }
 
 // A whole range of one entry, which stands for every column; answers the sheet's length.
@@ -79,9 +79,9 @@ pub(crate) fn categories(s: &mut [u8], a: i64, b: i64, lists: u8, columns: u8) -
     ensures { result ≡ called_for narrow whole_lists_nature 0 lists 2 0 }
 {
     head(s, form::WHOLE_LISTS, lists, columns);
-    bytes::put_u8(s, CATEGORIES_AT, 2);
-    let second = bytes::put_u8(s, form::NARROW_ARRAYS_AT, 0);
-    let values = bytes::put_u8(s, second, if lists == 1 { 0 } else { 1 });
-    let next = bytes::put_i64(s, values, a);
-    bytes::put_i64(s, next, b)
+    octets::put_u8(s, CATEGORIES_AT, 2);
+    let second = octets::put_u8(s, form::NARROW_ARRAYS_AT, 0);
+    let values = octets::put_u8(s, second, if lists == 1 { 0 } else { 1 });
+    let next = octets::put_i64(s, values, a);
+    octets::put_i64(s, next, b)
 }

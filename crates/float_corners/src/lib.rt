@@ -1,4 +1,6 @@
 // Products and quotients of float ends, for Multiply and Divide. An entry is [a, c] on the left and [d, f] on the right.
+#![tactic(auto)]
+
 ghost use Rattle.std.specs.Prelude.{◌≡◌};
 ghost use Rattle.numbers.specs.Result.{ok};
 ghost use Rattle.numbers.specs.Kind.{float, lesser, greater, least, greatest};

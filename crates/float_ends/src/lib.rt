@@ -1,4 +1,6 @@
 // The end rules of the ten components on floats. An entry is [a, c] on the left and [d, f] on the right.
+#![tactic(auto)]
+
 ghost use Rattle.std.specs.Prelude.{◌≡◌};
 ghost use Rattle.numbers.specs.Result.{ok};
 ghost use Rattle.numbers.specs.Kind.{float, lesser, greater};

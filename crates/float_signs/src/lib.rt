@@ -1,4 +1,6 @@
 // The sign steps of Abs and Negative on floats. An entry is [a, c].
+#![tactic(auto)]
+
 ghost use Rattle.std.specs.Prelude.{◌≡◌};
 ghost use Rattle.std.specs.Float.Ieee.{neg};
 ghost use Rattle.numbers.specs.Result.{ok};

@@ -6,7 +6,7 @@
 use mathlib.Core.Path.{◌≡◌, sym, ap, subst, ◌∙◌}
 use mathlib.Core.List.{List}
 use Prim.Native.Nat.{ℕ, ◌%◌, ◌^◌}
-use Rattle.bytes.proofs.Reread.{AllBytes}
+use Rattle.octets.proofs.Reread.{AllBytes}
 use Rattle.base.specs.Form.{narrow}
 use Rattle.base.specs.Components.{component_of}
 use Rattle.base.specs.declared.Component.{Component}

@@ -12,7 +12,7 @@ use Prim.Native.Nat.{ℕ, ◌<◌}
 use native.Mathlib.Omega.{arith}
 use types.Run.{OneOf}
 use denote.Enum.Declared.{tag_of}
-use Rattle.bytes.proofs.Reread.{AllBytes}
+use Rattle.octets.proofs.Reread.{AllBytes}
 use Rattle.sets.specs.Sets.{in_set}
 use Rattle.sets.proofs.SetLaws.{chosen_same}
 use Rattle.base.specs.Form.{narrow}

@@ -1,5 +1,7 @@
 // The calls that Rust and C see, each with a reply of a code and a value: the single call derives a sheet in a lent buffer, the plan call one for each step in a
 // lent work buffer, and the call that shows a node delivers one of these to a reader.
+#![tactic(auto)]
+
 ghost use Rattle.std.specs.Prelude.{◌≡◌, ◌%◌, ◌^◌};
 ghost use Rattle.base.specs.Form.{narrow};
 ghost use Rattle.calls.specs.Single.{single, step, delivery};
@@ -42,8 +44,7 @@ fn join_texts(c: Component, node: u32, left: &[u8], right: &[u8], out: &mut [u8]
 }
 
 // The step works in buffers that are made here; those for categories only where some are mapped, combined or united.
-#[unsafe(no_mangle)]
-pub extern "C" fn propagate_property(
+pub fn propagate_property(
     component: u32,
     node: u32,
     left: &[u8],
@@ -108,8 +109,7 @@ pub extern "C" fn propagate_property(
 }
 
 // `contained` is demand 3, of the work buffer as it was handed in and as it is left.
-#[unsafe(no_mangle)]
-pub extern "C" fn propagate_properties(plan: &[u8], work: &mut [u8]) -> u64
+pub fn propagate_properties(plan: &[u8], work: &mut [u8]) -> u64
     ensures bytes { replied result work.new ≡ Walk.plan narrow plan.now work.old }
     ensures contained { result % 2 ^ 32 ≡ 0 → Contained narrow plan.now work.old work.new }
 {
@@ -122,8 +122,7 @@ pub extern "C" fn propagate_properties(plan: &[u8], work: &mut [u8]) -> u64
 
 // The wanted node's sheet, in an output of its own, if the reader may see it. `rights` and `alike` say what every other run with the same plan, owners, reader and
 // wanted node has in common with this one, `planned` what the plan call has.
-#[unsafe(no_mangle)]
-pub extern "C" fn reveal_node(
+pub fn reveal_node(
     plan: &[u8],
     owners: &[u8],
     reader: u64,

@@ -99,7 +99,7 @@ pub lent_alone :
     → Buffers m F left right first second out × Lent m F left right us bs store hints first second
     → Buffers m F left left first second out × Lent m F left left us us store hints first second
 lent_alone Fam.Unary e p = (
-  record { first_room = p.0.first-room; second_room = p.0.second-room; sheet_room = p.0.sheet-room },
+  record { first_room = p.0.first_room; second_room = p.0.second_room; sheet_room = p.0.sheet_room },
   record {
     stores = λ h. let s = p.1.stores h in record { lefts = s.lefts; rights = s.lefts; results = s.results; hinted = s.hinted };
     arrays = p.1.arrays;
@@ -130,5 +130,5 @@ pub nature_room_lem : {F : Form} → Laid F → (m : Family) (left right : List 
 nature_room_lem {F} laid m left right = most (joins_lists m F left right) (joins_texts m F left right) (omega arith) laid.ranges_shorter
 
 pub wider : (F : Form) {a b : ℕ} (first second : List ℕ) → a ≤ b → (d : Derived) → Within F a first second d → Within F b first second d
-wider F first second h (D.Nature p) z = record { entries = z.entries; values = z.values; text = z.text; first_held = z.first-held; second_held = z.second-held; both = omega arith }
+wider F first second h (D.Nature p) z = record { entries = z.entries; values = z.values; text = z.text; first_held = z.first_held; second_held = z.second_held; both = omega arith }
 wider F first second h (D.Refused k) z = tt

@@ -1,4 +1,6 @@
 // What a step is lent: the category stores only where categories are mapped, combined or united.
+#![tactic(auto)]
+
 ghost use Rattle.std.specs.Prelude.{◌≡◌};
 ghost use Rattle.base.specs.Form.{form_of};
 ghost use Rattle.base.specs.Components.{family_of};

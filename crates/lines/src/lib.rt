@@ -1,4 +1,6 @@
 // Lists as text: the lines of an input, the fields of a line, the number or the bytes of a field.
+#![tactic(auto)]
+
 ghost use Rattle.std.specs.Prelude.{◌≡◌, ◌-◌, ◌≤◌, ◌<◌, length};
 ghost use Rattle.lines.specs.Window.{Open, Inside, slid};
 ghost use Rattle.lines.specs.Fields.{Found, is_comment, field_count, field_of};
@@ -13,14 +15,14 @@ pub const BLANK: u8 = 32;
 pub const NO_BYTES: u8 = 45;
 
 // The bytes of a buffer that were read and not handed out yet: from `at` to `end`.
-#[derive(Drop)]
+#[derive(Clone, Copy)]
 pub struct Window {
     pub at: usize,
     pub end: usize,
 }
 
 // What stands next in an input: a line, from `from` to `to` in the buffer, and the window behind it.
-#[derive(Drop)]
+#[derive(Clone, Copy)]
 pub enum Line {
     Is {
         from: usize,
@@ -31,21 +33,21 @@ pub enum Line {
 }
 
 // A hexadecimal digit's value.
-#[derive(Drop)]
+#[derive(Clone, Copy)]
 pub enum Digit {
     Is(u8),
     Not,
 }
 
 // A number of 32 bits.
-#[derive(Drop)]
+#[derive(Clone, Copy)]
 pub enum Number {
     Is(u32),
     Not,
 }
 
 // How many bytes a field put at the start of a buffer.
-#[derive(Drop)]
+#[derive(Clone, Copy)]
 pub enum Held {
     Len(usize),
     Not,

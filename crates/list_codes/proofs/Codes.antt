@@ -70,11 +70,11 @@ fine {F} {s} l columns e = passing_fine l columns (all_pass (list_checks columns
 
 module _ {F : Form} {s : List ℕ} (f : Fine F s) where
   not_float : byte_at F nature_at s ≡ 5 → ⊥
-  not_float e = eqb-false (nature_number (nature_in F s)) 5 f.no-float (number_of F s f.lists.read ∙ e)
+  not_float e = eqb-false (nature_number (nature_in F s)) 5 f.no_float (number_of F s f.lists.read ∙ e)
 
   -- whole, bool or text
   pub kinds : (byte_at F nature_at s ≡ 3) ⊎ ((byte_at F nature_at s ≡ 4) ⊎ (byte_at F nature_at s ≡ 6))
-  kinds = go (byte_at F nature_at s) (nature_within F s (permitted F s f.lists.read.fields)) f.lists.present f.lists.no-range not_float
+  kinds = go (byte_at F nature_at s) (nature_within F s (permitted F s f.lists.read.fields)) f.lists.present f.lists.no_range not_float
     where
       go : (k : ℕ) → k ≤ 6 → eqb k 0 ≡ false → is_range_nature k ≡ false → (k ≡ 5 → ⊥) → (k ≡ 3) ⊎ ((k ≡ 4) ⊎ (k ≡ 6))
       go zero h p r x = absurd (yes_no p)
@@ -95,9 +95,9 @@ module _ {F : Form} {s : List ℕ} (f : Fine F s) where
 
   pub fine_listed : Listed F s
   fine_listed =
-      let other = eqb-false (entry_count (nature_in F s)) 0 f.some-lists in
+      let other = eqb-false (entry_count (nature_in F s)) 0 f.some_lists in
       let same = count_of F s f.lists in
-      record { passed = f.lists.read.sizes; no_range = f.lists.no-range; some = go (list_count F s) (λ z. other (same ∙ z)) }
+      record { passed = f.lists.read.sizes; no_range = f.lists.no_range; some = go (list_count F s) (λ z. other (same ∙ z)) }
     where
       go : (n : ℕ) → (n ≡ 0 → ⊥) → 0 < n
       go n h = omega (arith, h)

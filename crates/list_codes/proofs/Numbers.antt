@@ -44,4 +44,4 @@ module _ (F : Form) (s : List ℕ) where
   entered (suc (suc (suc (suc (suc (suc (suc k))))))) h p n e = absurd (omega arith)
 
   pub count_of : Lists F s → entry_count (nature_in F s) ≡ list_count F s
-  count_of l = entered (byte_at F nature_at s) (nature_within F s (permitted F s l.read.fields)) l.present l.no-range refl
+  count_of l = entered (byte_at F nature_at s) (nature_within F s (permitted F s l.read.fields)) l.present l.no_range refl

@@ -1,4 +1,6 @@
 // 19 to 21 and 29 of category operands, and which components have the rules that 22 asks for.
+#![tactic(auto)]
+
 ghost use Rattle.std.specs.Prelude.{◌≡◌};
 ghost use Rattle.numbers.specs.Result.{first_failing};
 ghost use Rattle.base.specs.Form.{form_of};

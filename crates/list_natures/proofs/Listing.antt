@@ -76,7 +76,7 @@ module _ (c : Component) (type columns : ℕ) where
     -- there is no rule for bool categories
     pub other_pair : Joint F left right → (byte_at F nature_at left ≡ 6 → ⊥) → (byte_at F nature_at left ≡ 3 → ⊥) → pair ≡ refused 22
     other_pair a text other =
-        ⊎_elim (λ e. absurd (other e)) (λ h. ⊎_elim (λ e. opened (nature_bool_lists F left e)) (λ e. absurd (text e)) h) (kinds a.left-fine)
+        ⊎_elim (λ e. absurd (other e)) (λ h. ⊎_elim (λ e. opened (nature_bool_lists F left e)) (λ e. absurd (text e)) h) (kinds a.left_fine)
 
     module _ (a : Joint F left right) (e : byte_at F nature_at left ≡ 3) where
       abbrev paired_by : Option (ℤ → ℤ → Result ℤ) → Result Nature
@@ -91,7 +91,7 @@ module _ (c : Component) (type columns : ℕ) where
       no_rule reached n =
           ⊎_elim
           (λ h. whole_pair ∙ ap (λ (o : Option (ℤ → ℤ → Result ℤ)). paired_by o) (rule_is c type h ∙ ap (λ (t : Bool). cond t (some (rule_of c)) none) n))
-          (λ h. absurd (yes_no (sym h ∙ a.right-fine.lists.no-range)))
+          (λ h. absurd (yes_no (sym h ∙ a.right_fine.lists.no_range)))
           reached
 
       pub pair_ruled : has_rule (family_of c) ≡ true → pair ≡ limited F.category_limit (combined eq_z (rule_of c) columns (lists F left as_whole) (lists F right as_whole))

@@ -1,4 +1,6 @@
 // `propagate_unary_categorical_nature` and `propagate_binary_categorical_nature`: 19 to 26, 28 and 29, and the nature derived, its arrays at the start of two lent buffers.
+#![tactic(auto)]
+
 ghost use Rattle.std.specs.Prelude.{◌≡◌, true, false};
 ghost use Rattle.base.specs.Form.{form_of};
 ghost use Rattle.base.specs.Components.{family_of, is_unary};

@@ -1,4 +1,6 @@
 // `propagate_unary_nature` and `propagate_binary_nature`: 17 to 26, 28 and 29, and the nature derived, its arrays at the start of two lent buffers.
+#![tactic(auto)]
+
 ghost use Rattle.std.specs.Prelude.{◌≡◌, false, List, ℕ};
 ghost use Rattle.numbers.specs.Result.{ok};
 ghost use Rattle.base.specs.Form.{form_of};

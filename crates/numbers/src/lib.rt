@@ -1,4 +1,6 @@
 // The number types, and arithmetic on 64 signed bits: the exact result, or the answer that it leaves the type.
+#![tactic(auto)]
+
 ghost use Rattle.std.specs.Prelude.{◌≡◌, true, ◌^◌, ◌≤◌, ◌+ℤ◌, ◌-ℤ◌, ◌*ℤ◌, neg_ℤ, nat_abs};
 ghost use Rattle.numbers.specs.Checked.{checked_of, quotient_of, signed, differ};
 
@@ -15,7 +17,7 @@ const HALF_GREATEST: Integer = 2147483647;
 
 const HALF_LEAST: Integer = -2147483648;
 
-#[derive(Drop)]
+#[derive(Clone, Copy)]
 pub enum Checked {
     Fits(i64),
     Leaves,

@@ -1,5 +1,7 @@
 // Checks 6 to 16: 0, or the number of the first that fails. One that reads groups or entries is made only where none before it has failed; those of the
 // heads alone are made together.
+#![tactic(auto)]
+
 ghost use Rattle.std.specs.Prelude.{◌≡◌, false, not, ◌&&◌, [], ◌∷◌, eqb};
 ghost use Rattle.numbers.specs.Result.{check, first_failing};
 ghost use Rattle.base.specs.Form.{form_of};
@@ -48,7 +50,7 @@ fn not_one(sample: OptionU64) -> bool
     let OptionU64::Is(bits) = sample else {
         return false;
     };
-    bytes::float_of(bits) != 1.0
+    octets::float_of(bits) != 1.0
 }
 
 fn sampled(h: Head) -> bool

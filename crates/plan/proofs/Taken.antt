@@ -9,8 +9,8 @@ use mathlib.Core.List.{List}
 use Prim.Native.Nat.{ℕ, suc, ◌+◌, ◌-◌, ◌≤◌, ◌<◌}
 use native.Mathlib.Omega.{arith}
 use borrow.Author.Tests.{ne_eqb}
-use Rattle.bytes.specs.declared.Put.{Put}
-use Rattle.bytes.specs.declared.Put.TheVariants as U
+use Rattle.octets.specs.declared.Put.{Put}
+use Rattle.octets.specs.declared.Put.TheVariants as U
 use Rattle.utilities.specs.Lists.{list_from}
 use Rattle.sets.specs.Sets.{chosen}
 use Rattle.base.specs.Form.{narrow}

@@ -1,4 +1,6 @@
 // The steps of a plan, taken one after the other on the work buffer.
+#![tactic(auto)]
+
 ghost use Rattle.std.specs.Prelude.{◌≡◌, true, ◌≤◌};
 ghost use Rattle.base.specs.Form.{narrow};
 ghost use Rattle.plan_form.specs.Form.{node_count, leaf_count};

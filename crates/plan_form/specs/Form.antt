@@ -1,6 +1,6 @@
 -- 01, "The plan, our addition": the form of a plan, and 1.
 use Rattle.std.specs.Prelude.{Bool, false, not, ◌&&◌, ◌||◌, List, ℕ, ◌+◌, ◌-◌, ◌*◌, ◌/◌, ◌%◌, length, eqb, ltb}
-use Rattle.bytes.specs.Le.{le_at}
+use Rattle.octets.specs.Le.{le_at}
 use Rattle.base.specs.Checks.{holds_from}
 use Rattle.base.specs.Components.{component_of, family_of, is_unary}
 use Rattle.base.specs.declared.Numbered.{Numbered}

@@ -1,4 +1,6 @@
 // The plan's form, read from its bytes, and refusal 1.
+#![tactic(auto)]
+
 ghost use Rattle.std.specs.Prelude.{◌≡◌, ◌+◌, ◌*◌, ◌≤◌, length};
 ghost use Rattle.base.specs.Checks.{holds_from};
 ghost use Rattle.base.specs.Components.{component_of};
@@ -30,14 +32,14 @@ pub fn node_count(plan: &[u8]) -> usize
     requires { steps_at ≤ length plan.now }
     ensures { result ≡ node_count plan.now }
 {
-    bytes::u16_at(plan, NODES_AT) as usize
+    octets::u16_at(plan, NODES_AT) as usize
 }
 
 pub fn leaf_count(plan: &[u8]) -> usize
     requires { steps_at ≤ length plan.now }
     ensures { result ≡ leaf_count plan.now }
 {
-    bytes::u16_at(plan, LEAVES_AT) as usize
+    octets::u16_at(plan, LEAVES_AT) as usize
 }
 
 // The component's number of node k, a step.
@@ -46,7 +48,7 @@ pub fn component_number(plan: &[u8], k: usize) -> u32
     ensures { result ≡ component_number plan.now k }
 {
     let leaves = leaf_count(plan);
-    bytes::u32_at(plan, STEPS_AT + NUMBER_BYTES * (k - leaves))
+    octets::u32_at(plan, STEPS_AT + NUMBER_BYTES * (k - leaves))
 }
 
 // Both operands of node k, a step, as they are stored.
@@ -56,7 +58,7 @@ fn operand_pair(plan: &[u8], k: usize) -> u32
 {
     let leaves = leaf_count(plan);
     let steps = node_count(plan) - leaves;
-    bytes::u32_at(
+    octets::u32_at(
         plan,
         STEPS_AT + NUMBER_BYTES * steps + NUMBER_BYTES * (k - leaves),
     )

@@ -1,4 +1,6 @@
 // A plan before its first step: slots, leaves, 1 and 27.
+#![tactic(auto)]
+
 ghost use Rattle.std.specs.Prelude.{◌≡◌, false, ltb, length};
 ghost use Rattle.base.specs.Form.{narrow};
 ghost use Rattle.base.specs.Checks.{read};
@@ -21,7 +23,7 @@ pub const NO_NODE: usize = 65535;
 
 // How far a plan was walked: to its end, with the node count; to a refusal and its node; or to the step that is next. `rights::admitted` says by the last that the
 // call goes on.
-#[derive(Drop)]
+#[derive(Clone, Copy)]
 pub enum Walked {
     Accepted(usize),
     Refused(u32, usize),

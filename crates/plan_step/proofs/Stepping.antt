@@ -12,8 +12,8 @@ use lib.IntN.{ℤ}
 use lib.ListN.{length, take, drop, take-append-drop}
 use lib.Dec.{T, eqb, leb}
 use borrow.Author.Tests.{le-leb, eqb-true}
-use Rattle.bytes.specs.declared.Put.{Put}
-use Rattle.bytes.specs.declared.Put.TheVariants as U
+use Rattle.octets.specs.declared.Put.{Put}
+use Rattle.octets.specs.declared.Put.TheVariants as U
 use Rattle.base.specs.Form.{Form, narrow, byte_at, nature_at, whole_lists_nature, text_lists_nature, entries_at, longest}
 use Rattle.base.specs.Components.{component_of}
 use Rattle.base.specs.declared.Component.{Component}
@@ -57,9 +57,9 @@ module _ {m : Family} {F : Form} {left right hints first second scratch : List �
       → (joins_texts m F left right ≡ true → TextsLent F us bs store first second scratch) → Buffers m F left right first second scratch × Lent m F left right us bs store hints first second
   step_lent rooms lists texts = (
     record {
-      first_room = rooms.first-room;
-      second_room = rooms.second-room;
-      sheet_room = sheet_fits F (joins_texts m F left right) (joins_lists m F left right) rooms.sheet-room (λ e. (lists e).sheet-room) (λ e. (texts e).sheet-room);
+      first_room = rooms.first_room;
+      second_room = rooms.second_room;
+      sheet_room = sheet_fits F (joins_texts m F left right) (joins_lists m F left right) rooms.sheet_room (λ e. (lists e).sheet-room) (λ e. (texts e).sheet-room);
     },
     record { stores = λ e. (lists e).stores; arrays = λ e. (lists e).arrays; texts = λ e. (texts e).stores },
   )

@@ -3,8 +3,8 @@ use Rattle.std.specs.Prelude.{List, ℕ, ◌+◌, ◌*◌, ◌≤◌, ℤ, lengt
 use Rattle.base.specs.Form.{Form, entries_at, longest}
 use Rattle.writer.specs.Written.{ends_room, lists_room}
 use Rattle.category_lists.specs.Answers.{Stores, Arrays, TextStores}
-use Rattle.bytes.specs.declared.Put.{Put}
-use Rattle.bytes.specs.declared.Put.TheVariants as U
+use Rattle.octets.specs.declared.Put.{Put}
+use Rattle.octets.specs.declared.Put.TheVariants as U
 
 -- what every step of a plan is lent: room for the ends of a range, and for the sheet of one
 pub record Rooms (F : Form) (first second scratch : List ℕ) : Type 0 where

@@ -1,4 +1,6 @@
 // One step of a plan, taken on the work buffer.
+#![tactic(auto)]
+
 ghost use Rattle.std.specs.Prelude.{◌≡◌, true};
 ghost use Rattle.base.specs.Form.{narrow};
 ghost use Rattle.deliveries.specs.Code.{given};
@@ -10,7 +12,7 @@ ghost use Rattle.plan_step.specs.Code.{Rooms, Large, put_code};
 
 use base::form::Form;
 use base::{Component, Numbered, refusals};
-use bytes::Put;
+use octets::Put;
 
 // Takes step k as the single call does with its node number. It reads its operands' slots and writes its own.
 pub fn step_on(

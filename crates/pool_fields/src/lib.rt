@@ -1,4 +1,6 @@
 // The rows' sum (24) and the fields of Pool; and what refuses where the rows leave 64 bits.
+#![tactic(auto)]
+
 ghost use Rattle.std.specs.Prelude.{◌≡◌};
 ghost use Rattle.base.specs.Code.{signed_of, head_fields};
 ghost use Rattle.shape.specs.Shape.{rows_sum};
@@ -10,7 +12,7 @@ use numbers::Checked;
 use writer::Derived;
 
 // The rows of two arrays stacked, or that their sum leaves 64 bits.
-#[derive(Drop)]
+#[derive(Clone, Copy)]
 pub enum Rows {
     Are(OptionI64),
     Leave,

@@ -204,7 +204,7 @@ module _ {F : Form} {left right : List ℕ} (x : Read F left) (y : Read F right)
   present {s} z e = eqb-false (byte_at F nature_at s) 0 z.present (sym (number_of F s z.read) ∙ e)
 
   no_range : {s : List ℕ} → Lists F s → is_range_nature (nature_number (nature_in F s)) ≡ false
-  no_range {s} z = ap is_range_nature (number_of F s z.read) ∙ z.no-range
+  no_range {s} z = ap is_range_nature (number_of F s z.read) ∙ z.no_range
 
   pub pooled_lists : Lists F left → Lists F right → and_then (lists_united columns l r) (kept F) ≡ counted
   pooled_lists p q =

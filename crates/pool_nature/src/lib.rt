@@ -1,4 +1,6 @@
 // The nature that Pool derives: 17 to 21 and 29, then 26 and 28, its arrays at the start of two lent buffers.
+#![tactic(auto)]
+
 ghost use Rattle.std.specs.Prelude.{◌≡◌};
 ghost use Rattle.numbers.specs.Result.{and_then};
 ghost use Rattle.base.specs.Form.{form_of};

@@ -9,7 +9,7 @@ use Prim.Native.Nat.{ℕ, zero, suc, ◌+◌, ◌-◌, ◌*◌, ◌<◌}
 use native.Mathlib.Nat.{sub-zero, add-zero, zero-add, add_assoc}
 use native.Mathlib.Omega.{arith}
 use lib.ListN.{length, take}
-use Rattle.bytes.specs.Wrote.{Wrote}
+use Rattle.octets.specs.Wrote.{Wrote}
 use Rattle.numbers.specs.Result.{Result, ok, refused, and_then}
 use Rattle.numbers.specs.Kind.{Span}
 use Rattle.utilities.specs.Lists.{list_from}

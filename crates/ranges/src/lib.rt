@@ -1,4 +1,6 @@
 // Ranges, column by column.
+#![tactic(auto)]
+
 ghost use Rattle.std.specs.Prelude.{◌≡◌, true, false, ◌*◌, ◌^◌, ◌≤◌, ◌<◌, length};
 ghost use Rattle.utilities.specs.Columns.{spreads};
 ghost use Rattle.base.specs.Form.{form_of, nature_at, byte_at, is_range_nature};

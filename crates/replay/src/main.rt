@@ -1,5 +1,7 @@
 // Replays the two stored lists through the gate, that of single calls, which the first argument names, and that of plans, which the second names:
 // every answer and every byte of each lent buffer is compared.
+#![tactic(auto)]
+
 mod tally; // how many lines come to what
 
 use answers::{Outcome, Stored};

@@ -8,7 +8,7 @@ use libc::STDOUT_FILENO;
 // The components are 1 to 10; 0 stands for every other number, and for a plan.
 const PLACES: usize = 11;
 
-#[derive(Drop)]
+#[derive(Clone, Copy)]
 pub struct Tally {
     pub lines: u64,
     pub unread: u64,

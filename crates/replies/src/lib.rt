@@ -1,4 +1,6 @@
 // The reply of a call: a code and a value, of a step that is delivered, of a plan that was walked and of a node that is shown.
+#![tactic(auto)]
+
 ghost use Rattle.std.specs.Prelude.{◌≡◌, List, ℕ, ◌^◌, ◌<◌, length};
 ghost use Rattle.calls.specs.Single.{packed, delivery};
 ghost use Rattle.deliveries.specs.Code.{step_in, Held};
@@ -9,7 +11,7 @@ ghost use Rattle.rights.specs.Reveal.{showing};
 ghost use Rattle.replies.specs.Reply.{replied};
 
 use base::refusals;
-use bytes::Put;
+use octets::Put;
 use plan_leaves::Walked;
 
 // What the value of a reply is multiplied by.
@@ -55,7 +57,7 @@ pub fn show_reply(work: &[u8], k: usize, out: &mut [u8]) -> u64
     let start = k * plan_leaves::SLOT;
     let end = plan_leaves::sheet_end(work, k);
     let n = end - start;
-    if bytes::deliver(out, &work[start..end], n) {
+    if octets::deliver(out, &work[start..end], n) {
         return reply(0, n);
     }
     reply(refusals::NO_ROOM, plan_leaves::NO_NODE)

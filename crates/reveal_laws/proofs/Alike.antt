@@ -10,8 +10,8 @@ use native.Mathlib.Omega.{arith}
 use lib.Dec.{eqb, leb}
 use lib.ListN.{length}
 use borrow.Author.Tests.{eqb-true, eqb-false, leb-true, leb-false}
-use Rattle.bytes.specs.Deliver.{delivered}
-use Rattle.bytes.proofs.Reread.{AllBytes}
+use Rattle.octets.specs.Deliver.{delivered}
+use Rattle.octets.proofs.Reread.{AllBytes}
 use Rattle.base.specs.Form.{narrow}
 use Rattle.base.specs.declared.form.Form.TheVariants as Stored
 use Rattle.base.proofs.Forms.{laid}

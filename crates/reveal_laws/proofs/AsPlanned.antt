@@ -9,8 +9,8 @@ use native.Mathlib.Omega.{arith}
 use lib.Dec.{eqb, leb, ltb}
 use lib.ListN.{length}
 use borrow.Author.Tests.{eqb-true, eqb-false, leb-true, leb-false}
-use Rattle.bytes.proofs.Reread.{AllBytes}
-use Rattle.bytes.specs.Deliver.{delivered}
+use Rattle.octets.proofs.Reread.{AllBytes}
+use Rattle.octets.specs.Deliver.{delivered}
 use Rattle.utilities.specs.Lists.{list_from}
 use Rattle.base.specs.Form.{narrow}
 use Rattle.base.proofs.Passed.{Passed}

@@ -10,7 +10,7 @@ use Prim.Native.Nat.{ℕ, ◌*◌, ◌≤◌, ◌<◌}
 use lib.Dec.{eqb, leb, ltb}
 use lib.ListN.{length}
 use borrow.Author.Tests.{leb-false, ltb-true, ltb-false, lt-ltb, le-ltb, le-leb, lt-leb, eq-eqb, ne_eqb}
-use Rattle.bytes.specs.Deliver.{delivered}
+use Rattle.octets.specs.Deliver.{delivered}
 use Rattle.base.specs.Form.{narrow}
 use Rattle.plan_form.specs.Form.{node_count, leaf_count, plan_fails, no_node}
 use Rattle.calls.specs.Single.{Outcome}

@@ -14,7 +14,7 @@ use lib.Dec.{leb}
 use lib.ListN.{length, take, drop, length-append, length-drop, take-append-drop}
 use lib.Seq.{take_at, drop_at, take-append-add, length-take-le, length_front}
 use borrow.Author.Tests.{leb-true, le-leb}
-use Rattle.bytes.specs.Deliver.{delivered}
+use Rattle.octets.specs.Deliver.{delivered}
 use Rattle.numbers.specs.Result.{Result, ok, refused}
 use Rattle.base.specs.Form.{Laid, narrow, longest}
 use Rattle.base.specs.Sheet.{Sheet}

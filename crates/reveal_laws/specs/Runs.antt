@@ -1,6 +1,6 @@
 -- 02, S-7: what two runs of `reveal` with the same plan, owners, reader and wanted node have in common, and what a run has in common with the plan call.
 use Rattle.std.specs.Prelude.{◌≡◌, true, List, [], ◌∷◌, ◌++◌, ◌⊎◌, ℕ, ◌+◌, ◌≤◌, ◌<◌, length, take, drop}
-use Rattle.bytes.specs.Deliver.{delivered}
+use Rattle.octets.specs.Deliver.{delivered}
 use Rattle.base.specs.Form.{Form, longest}
 use Rattle.plan_form.specs.Form.{node_count, leaf_count}
 use Rattle.calls.specs.Walk.{slot_at, sheet_in, plan}

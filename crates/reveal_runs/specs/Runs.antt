@@ -8,7 +8,7 @@
 use Rattle.std.specs.Prelude.{◌≡◌, refl, true, List, [], ◌∷◌, ◌++◌, ℕ, ◌-◌, ◌*◌, ◌^◌, ℤ, pos, length, replicate}
 use Rattle.std.proofs.Math.Option.{Option, none, some}
 use Rattle.std.specs.Int.Count.{ones}
-use Rattle.bytes.specs.Le.{le_bytes}
+use Rattle.octets.specs.Le.{le_bytes}
 use Rattle.base.specs.Form.{narrow, longest, int_type, float_type}
 use Rattle.base.specs.Sheet.{Sheet}
 use Rattle.base.specs.Encode.{encode, joined}

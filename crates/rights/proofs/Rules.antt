@@ -8,7 +8,7 @@
 --     few_owners      a node of fewer owners, not all of them in the reader's set, is not shown
 -- Assumes nothing.
 use mathlib.Core.Path.{◌≡◌, refl, sym, ap, ap₂, ◌∙◌}
-use mathlib.Core.Bool.{Bool, true, false, ◌||◌, or_true}
+use mathlib.Core.Bool.{Bool, true, false, ◌||◌, or-true}
 use mathlib.Core.List.{List}
 use Prim.Native.Nat.{ℕ, zero, suc, ◌+◌, ◌*◌, ◌/◌, ◌%◌, ◌^◌, max, ◌≤◌, ◌<◌}
 use native.Mathlib.Nat.{div-add-mod', div-one, mod-lt, pow-suc}
@@ -74,7 +74,7 @@ no_owners reader = ap (λ (t : Bool). t || leb fewest_shown (ones 0)) (eq-eqb re
 
 pub five_owners : (owners reader : ℕ) → fewest_shown ≤ ones owners → seen owners reader ≡ true
 unfolding seen
-five_owners owners reader h = ap (λ (t : Bool). inside owners reader || t) (le-leb fewest_shown (ones owners) h) ∙ or_true (inside owners reader)
+five_owners owners reader h = ap (λ (t : Bool). inside owners reader || t) (le-leb fewest_shown (ones owners) h) ∙ or-true (inside owners reader)
 
 pub few_owners : (owners reader : ℕ) → inside owners reader ≡ false → ones owners < fewest_shown → seen owners reader ≡ false
 unfolding seen

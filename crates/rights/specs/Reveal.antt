@@ -1,6 +1,6 @@
 -- 02, S-7: the call that shows one node: its reply, and every byte of both lent buffers.
 use Rattle.std.specs.Prelude.{Bool, cond, not, ◌||◌, List, ℕ, ◌*◌, length, eqb, leb, ltb}
-use Rattle.bytes.specs.Deliver.{delivered}
+use Rattle.octets.specs.Deliver.{delivered}
 use Rattle.base.specs.Form.{Form}
 use Rattle.plan_form.specs.Form.{node_count, leaf_count, plan_fails, no_node}
 use Rattle.calls.specs.Single.{Outcome, outcome}

@@ -2,7 +2,7 @@
 use Rattle.std.specs.Prelude.{Bool, ◌||◌, List, ℕ, ◌*◌, eqb, leb}
 use Rattle.std.specs.Int.Bits.{bit_or}
 use Rattle.std.specs.Int.Count.{ones}
-use Rattle.bytes.specs.Le.{le_at}
+use Rattle.octets.specs.Le.{le_at}
 use Rattle.standing.specs.Standing.{by_operands}
 
 -- "Each leaf comes with a 64-bit set of owning rinks": set k at 8 k

@@ -1,4 +1,6 @@
 // Which rink may see which node: the call that shows one node, before any sheet is read.
+#![tactic(auto)]
+
 ghost use Rattle.std.specs.Prelude.{◌≡◌, false, ℕ, ◌*◌, ◌<◌, ◌≤◌, length, get_or};
 ghost use Rattle.plan_form.specs.Form.{node_limit, leaf_count, plan_fails};
 ghost use Rattle.standing.specs.Code.{NodeOf};
@@ -25,7 +27,7 @@ fn leaf_sets(plan: &[u8], owners: &[u8], sets: &mut [u64])
     let leaves = plan_form::leaf_count(plan);
     let mut k = 0;
     while k < leaves {
-        sets[k] = bytes::u64_at(owners, OWNER_BYTES * k);
+        sets[k] = octets::u64_at(owners, OWNER_BYTES * k);
         k += 1;
     }
 }

@@ -10,7 +10,7 @@ use Prim.Native.Nat.{ℕ, ◌+◌, ◌*◌, ◌≤◌}
 use native.Mathlib.Omega.{arith}
 use lib.ListN.{length}
 use borrow.Author.Tests.{leb-true}
-use Rattle.bytes.proofs.Reread.{AllBytes}
+use Rattle.octets.proofs.Reread.{AllBytes}
 use Rattle.base.specs.Form.{Form, Laid, place, nature_at, rows_at, group_count, entries_at}
 use Rattle.base.specs.Decode.{nature_in, fields_in, groups_in, decode}
 use Rattle.base.specs.Encode.{nature_number, entry_count, value_count, text_size, size_bytes, mark_bytes, encode}

@@ -4,7 +4,7 @@ use mathlib.Core.List.{List, [], ◌∷◌, ◌++◌}
 use Prim.Native.Nat.{ℕ, ◌+◌, ◌*◌}
 use native.Mathlib.Omega.{arith}
 use lib.ListN.{length}
-use Rattle.bytes.specs.Le.{le_at, le_bytes}
+use Rattle.octets.specs.Le.{le_at, le_bytes}
 use Rattle.base.specs.Form.{Form, Laid, group_count, list_count, category_count, place, byte_at, nature_at, type_at, nullity_at, releasable_at, not_empty_at, ordered_at, c_stability_at, aggregator_at, rows_mark_at, columns_mark_at, dataset_mark_at, dimensionality_mark_at, sample_mark_at, area_size_at, rows_at, columns_at, dataset_at, dimensionality_at, sample_at, node_at, partition_at, key_at, area_size}
 use Rattle.base.specs.Sheet.{Group, Sheet}
 use Rattle.base.specs.Decode.{as_whole, group_at, fields_in, groups_in}

@@ -12,8 +12,8 @@ use native.Mathlib.Numerals.{add-one}
 use native.Mathlib.Omega.{arith}
 use lib.ListN.{length, get_or, take, drop, replicate}
 use lib.Seq.{take-suc, take-add, take-length}
-use Rattle.bytes.specs.Le.{le_at, le_bytes}
-use Rattle.bytes.proofs.Reread.{AllBytes, le_bytes_le_at}
+use Rattle.octets.specs.Le.{le_at, le_bytes}
+use Rattle.octets.proofs.Reread.{AllBytes, le_bytes_le_at}
 use Rattle.utilities.specs.Lists.{list_from}
 use Rattle.base.specs.Encode.{joined}
 use Rattle.base.proofs.Groups.{joined_parts}

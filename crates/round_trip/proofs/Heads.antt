@@ -13,8 +13,8 @@ use native.Mathlib.Omega.{arith}
 use lib.ListN.{length, get_or, replicate}
 use lib.Dec.{T, eqb, leb, leb→le}
 use borrow.Author.Tests.{eqb-true}
-use Rattle.bytes.specs.Le.{le_at, le_bytes}
-use Rattle.bytes.proofs.Reread.{AllBytes}
+use Rattle.octets.specs.Le.{le_at, le_bytes}
+use Rattle.octets.proofs.Reread.{AllBytes}
 use Rattle.base.specs.Form.{Form, Laid, place, byte_at, nature_at, type_at, nullity_at, releasable_at, not_empty_at, ordered_at, c_stability_at, aggregator_at, rows_mark_at, columns_mark_at, dataset_mark_at, dimensionality_mark_at, sample_mark_at, reserved_at, area_size_at, later_at, later_count, rows_at, columns_at, dataset_at, dimensionality_at, sample_at, node_at, fields_end, area_size, last_nature, last_type}
 use Rattle.base.specs.Decode.{as_whole, as_bits, fields_in}
 use Rattle.base.specs.Encode.{whole_bits, mark_bytes, value_bytes}

@@ -13,8 +13,8 @@ use native.Mathlib.Omega.{arith}
 use lib.Dec.{eqb, ltb, leb}
 use lib.ListN.{length}
 use borrow.Author.Tests.{eqb-true, eqb-false, ne_eqb, ltb-true, leb-true}
-use Rattle.bytes.specs.Le.{le_at, le_bytes}
-use Rattle.bytes.proofs.Reread.{AllBytes, le_bytes_le_at}
+use Rattle.octets.specs.Le.{le_at, le_bytes}
+use Rattle.octets.proofs.Reread.{AllBytes, le_bytes_le_at}
 use Rattle.utilities.specs.Lists.{list_from}
 use Rattle.utilities.proofs.Built.{list_from_length}
 use Rattle.utilities.proofs.Mapped.{list_from_map}

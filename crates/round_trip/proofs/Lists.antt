@@ -14,8 +14,8 @@ use lib.ListN.{length, get_or, length-append}
 use lib.Seq.{ext_get_or}
 use lib.Dec.{eqb}
 use borrow.Author.Tests.{eq-eqb, ne_eqb}
-use Rattle.bytes.specs.Le.{le_bytes}
-use Rattle.bytes.proofs.Widths.{length_le_bytes}
+use Rattle.octets.specs.Le.{le_bytes}
+use Rattle.octets.proofs.Widths.{length_le_bytes}
 use Rattle.utilities.specs.Lists.{list_from}
 use Rattle.utilities.proofs.Built.{list_from_length, list_from_at}
 use Rattle.base.specs.Form.{Form, entries_at, number_at, value_at}

@@ -16,7 +16,7 @@ use lib.Ieee.{Float, nan, inf, fin, binary64, is_nan}
 use lib.Ieee.Bits.{to_bits-of_bits}
 use lib.Ieee.Scale.{finite}
 use borrow.Author.Tests.{eqb-true, eqb-false, leb-true}
-use Rattle.bytes.specs.Le.{le_at}
+use Rattle.octets.specs.Le.{le_at}
 use Rattle.base.specs.Decode.{as_float, option_at}
 use Rattle.base.specs.Encode.{float_bits, flag, mark, bits_of}
 use Rattle.base.specs.Checks.{mark_permitted}

@@ -5,8 +5,8 @@ use mathlib.Core.List.{List, [], ◌∷◌, ◌++◌}
 use Prim.Native.Nat.{ℕ, zero, suc, ◌+◌}
 use native.Mathlib.Nat.{add-zero, add_assoc}
 use lib.ListN.{length, replicate, length-append, length-replicate}
-use Rattle.bytes.specs.Le.{le_bytes}
-use Rattle.bytes.proofs.Widths.{length_le_bytes}
+use Rattle.octets.specs.Le.{le_bytes}
+use Rattle.octets.proofs.Widths.{length_le_bytes}
 use Rattle.round_trip.proofs.Standing.{Standing, standing_left, standing_right, standing_at}
 
 pub record Part : Type 0 where
@@ -50,4 +50,4 @@ pub part_stands : {s : List ℕ} {at : ℕ} (ps : List Part) (k : ℕ) → Stand
 part_stands {at = at} [] k h = standing_at h (sym (add-zero at))
 part_stands {at = at} (p ∷ ps) zero h = standing_at (standing_left p.bytes (together ps) h) (sym (add-zero at))
 part_stands {at = at} (p ∷ ps) (suc k) h =
-    standing_at (part_stands ps k (standing_right p.bytes (together ps) h (ap (λ (n : ℕ). at + n) p.sized))) (add_assoc at p.width (widths ps k))
+    standing_at (part_stands {at = at + p.width} ps k (standing_right p.bytes (together ps) h (ap (λ (n : ℕ). at + n) p.sized))) (add_assoc at p.width (widths ps k))

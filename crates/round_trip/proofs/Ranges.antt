@@ -10,8 +10,8 @@ use native.Mathlib.Numerals.{add-one}
 use native.Mathlib.Omega.{arith}
 use lib.ListN.{length, get_or, take, drop}
 use lib.Seq.{drop-cons}
-use Rattle.bytes.specs.Le.{le_at}
-use Rattle.bytes.proofs.Reread.{AllBytes, le_bytes_le_at}
+use Rattle.octets.specs.Le.{le_at}
+use Rattle.octets.proofs.Reread.{AllBytes, le_bytes_le_at}
 use Rattle.numbers.specs.Kind.{Span}
 use Rattle.base.specs.Form.{Form, group_count, list_count, entries_at, lower_at, upper_at}
 use Rattle.base.specs.Decode.{end_at, span_at, entries}

@@ -8,7 +8,7 @@ use mathlib.Core.Option.{Option}
 use Prim.Native.Nat.{ℕ, suc, ◌+◌, ◌*◌}
 use native.Mathlib.Omega.{arith}
 use lib.ListN.{length, length-append}
-use Rattle.bytes.proofs.Widths.{length_le_bytes}
+use Rattle.octets.proofs.Widths.{length_le_bytes}
 use Rattle.numbers.specs.Kind.{Span}
 use Rattle.utilities.specs.Lists.{list_from}
 use Rattle.base.specs.Form.{Form, entries_at, lower_at, upper_at}

@@ -12,8 +12,8 @@ use lib.Dec.{eqb}
 use lib.ListN.{length, drop}
 use lib.Seq.{take_all}
 use borrow.Author.Tests.{eqb-true, not-true, not-false}
-use Rattle.bytes.specs.Le.{le_at}
-use Rattle.bytes.proofs.Reread.{AllBytes, le_at_below}
+use Rattle.octets.specs.Le.{le_at}
+use Rattle.octets.proofs.Reread.{AllBytes, le_at_below}
 use Rattle.numbers.specs.Kind.{float}
 use Rattle.utilities.proofs.Built.{list_from_length}
 use Rattle.base.specs.Form.{Form, byte_at, nature_at, absent_nature, text_lists_nature, last_nature, is_range_nature, group_count, list_count, category_count, entries_at, lower_at, upper_at, area_at, area_size}

@@ -8,8 +8,8 @@ use mathlib.Core.List.{List, [], ◌∷◌, ◌++◌, append_assoc}
 use Prim.Native.Nat.{ℕ, ◌+◌, ◌^◌, ◌<◌}
 use lib.ListN.{length, get_or, take, drop, length-append}
 use lib.Seq.{get_or_at, drop_at, take-append_seam}
-use Rattle.bytes.specs.Le.{le_at, le_bytes}
-use Rattle.bytes.proofs.Round as Bytes
+use Rattle.octets.specs.Le.{le_at, le_bytes}
+use Rattle.octets.proofs.Round as Bytes
 
 -- vs are the bytes of s from `at` on
 pub record Standing (s : List ℕ) (at : ℕ) (vs : List ℕ) : Type 0 where

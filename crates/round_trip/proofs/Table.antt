@@ -4,8 +4,8 @@ use mathlib.Core.List.{List, [], ◌∷◌, ◌++◌, append_assoc, append-nil}
 use Prim.Native.Nat.{ℕ, suc, ◌-◌}
 use native.Mathlib.Nat.{zero-add}
 use lib.ListN.{length, replicate}
-use Rattle.bytes.specs.Le.{le_bytes}
-use Rattle.bytes.proofs.Widths.{length_le_bytes}
+use Rattle.octets.specs.Le.{le_bytes}
+use Rattle.octets.proofs.Widths.{length_le_bytes}
 use Rattle.base.specs.Form.{Form, place, later_count, fields_end}
 use Rattle.base.specs.Sheet.{Group, Fields, Sheet}
 use Rattle.base.specs.Decode.{as_bits}

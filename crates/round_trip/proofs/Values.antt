@@ -10,7 +10,7 @@ use lib.Ieee.{binary64}
 use lib.Ieee.Bits.{of_bits-to_bits, to_bits-lt}
 use mir.Syntax.{w64}
 use mir.Facts.{Fits-of_z, to_z-of_z}
-use Rattle.bytes.specs.Le.{le_at, le_bytes}
+use Rattle.octets.specs.Le.{le_at, le_bytes}
 use Rattle.base.specs.Decode.{as_whole, as_float, as_bits, option_at, end_at}
 use Rattle.base.specs.Encode.{whole_bits, float_bits, flag, mark, bits_of, end_bytes}
 use Rattle.round_trip.specs.WellFormed.{Present, Whole, Double, Bits}

@@ -1,1 +1,2 @@
 // Sheets and their bytes, both ways, for every stored form: definitions and laws, without code.
+#![tactic(auto)]

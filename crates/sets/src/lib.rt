@@ -1,4 +1,6 @@
 // Sets of numbers below 64, each the bits of one number.
+#![tactic(auto)]
+
 ghost use Rattle.std.specs.Prelude.{◌≡◌, ◌<◌, ◌^◌};
 ghost use Rattle.sets.specs.Sets.{in_set};
 

@@ -1,4 +1,6 @@
 // Columns, rows and fields of two operands: `propagate_binary_shape`, and the fields that a component derives; beside them the groups.
+#![tactic(auto)]
+
 ghost use Rattle.std.specs.Prelude.{◌≡◌, max};
 ghost use Rattle.numbers.specs.Kind.{eq_z};
 ghost use Rattle.base.specs.Bounds.{is_present};

@@ -1,4 +1,6 @@
 // The sheets that a line of the list of plans has, put into the slots of a work buffer.
+#![tactic(auto)]
+
 ghost use Rattle.std.specs.Prelude.{◌≡◌, true, ◌<◌};
 ghost use Rattle.std.proofs.Math.Option.{some};
 ghost use Rattle.plan_form.specs.Form.{node_limit};

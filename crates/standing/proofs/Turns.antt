@@ -35,8 +35,8 @@ module _ (p : List ℕ) {X : Type 0} (leaf : ℕ → X) (step : ℕ → X → X 
 
     -- more turns change nothing
     enough : (m n k : ℕ) → k < node_count p → k ≤ m → k ≤ n → turns p leaf step m k ≡ turns p leaf step n k
-    enough zero n k within a b = let some = form.some-leaf in turns_leaf zero k (omega arith) ∙ sym (turns_leaf n k (omega arith))
-    enough (suc m) zero k within a b = let some = form.some-leaf in turns_leaf (suc m) k (omega arith) ∙ sym (turns_leaf zero k (omega arith))
+    enough zero n k within a b = let some = form.some_leaf in turns_leaf zero k (omega arith) ∙ sym (turns_leaf n k (omega arith))
+    enough (suc m) zero k within a b = let some = form.some_leaf in turns_leaf (suc m) k (omega arith) ∙ sym (turns_leaf zero k (omega arith))
     enough (suc m) (suc n) k within a b = go (ltb k (leaf_count p)) refl (λ j h. enough m n j (omega arith) (omega arith) (omega arith))
       where
         go : (t : Bool) → ltb k (leaf_count p) ≡ t → ((j : ℕ) → j < k → turns p leaf step m j ≡ turns p leaf step n j)
@@ -48,7 +48,7 @@ module _ (p : List ℕ) {X : Type 0} (leaf : ℕ → X) (step : ℕ → X → X 
             turns_step m k h ∙ ap₂ (step k) (ih (left_of p k) o.0) (ih (right_of p k) o.1) ∙ sym (turns_step n k h)
 
     pub by_step : (k : ℕ) → leaf_count p ≤ k → k < node_count p → has k ≡ step k (has (left_of p k)) (has (right_of p k))
-    by_step zero h within = let some = form.some-leaf in absurd (omega arith)
+    by_step zero h within = let some = form.some_leaf in absurd (omega arith)
     by_step (suc n) h within =
         let k = suc n in
         let o = form.earlier k h within in

@@ -1,4 +1,6 @@
 // What a node stands on.
+#![tactic(auto)]
+
 ghost use Rattle.std.specs.Prelude.{◌≡◌, ℕ, ◌^◌, ◌<◌, ◌≤◌, length, get_or};
 ghost use Rattle.plan_form.specs.Form.{node_limit};
 ghost use Rattle.sets.specs.Sets.{in_set};

@@ -8,8 +8,8 @@ use native.Mathlib.Omega.{arith}
 use lib.Dec.{eqb}
 use lib.ListN.{length, get_or, take, drop, length-drop}
 use lib.Seq.{ext_get_or, get_or-drop}
-use Rattle.bytes.specs.Le.{le_at}
-use Rattle.bytes.proofs.Round.{le_at_cong}
+use Rattle.octets.specs.Le.{le_at}
+use Rattle.octets.proofs.Round.{le_at_cong}
 use Rattle.numbers.specs.Result.{ok}
 use Rattle.utilities.specs.Lists.{list_from}
 use Rattle.base.specs.Form.{Form, Laid, group_count, list_count, category_count, place, byte_at, nature_at, type_at, nullity_at, releasable_at, not_empty_at, ordered_at, c_stability_at, aggregator_at, rows_mark_at, columns_mark_at, dataset_mark_at, dimensionality_mark_at, sample_mark_at, reserved_at, area_size_at, later_at, later_count, rows_at, columns_at, dataset_at, dimensionality_at, sample_at, node_at, fields_end, partition_at, key_at, lower_at, upper_at, number_at, value_at, area_at, area_size}

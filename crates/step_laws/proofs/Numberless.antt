@@ -58,9 +58,9 @@ then_alike (refused k) f h p = alike_same refl
 sheet_alike : (g g' : Result Sheet) (f f' : Sheet → Result Sheet) → Alike g g'
     → ((l l' : Sheet) → Alike (ok l) (ok l') → Alike (f l) (f' l')) → Alike (and_then g f) (and_then g' f')
 sheet_alike (ok l) (ok l') f f' e p = p l l' e
-sheet_alike (ok l) (refused k) f f' e p = absurd (never (e.but-node (pos 0)))
-sheet_alike (refused k) (ok l) f f' e p = absurd (never (sym (e.but-node (pos 0))))
-sheet_alike (refused k) (refused m) f f' e p = record { but_node = λ n. e.but-node n }
+sheet_alike (ok l) (refused k) f f' e p = absurd (never (e.but_node (pos 0)))
+sheet_alike (refused k) (ok l) f f' e p = absurd (never (sym (e.but_node (pos 0))))
+sheet_alike (refused k) (refused m) f f' e p = record { but_node = λ n. e.but_node n }
 
 -- ---- a derivation
 
@@ -116,7 +116,7 @@ module _ (F : Form) (c : Component) (a b : ℤ) (l r : Sheet) where
   numberless = by_family (family_of c)
 
 same_sheet : (l l' : Sheet) → Alike (ok l) (ok l') → l ≡ with_node l.node l'
-same_sheet l l' e = let h : ◌≡◌ {A = Result Sheet} (ok l) (ok (with_node l.node l')) = e.but-node l.node in cc
+same_sheet l l' e = let h : ◌≡◌ {A = Result Sheet} (ok l) (ok (with_node l.node l')) = e.but_node l.node in cc
 
 pub derive_alike : (F : Form) (c : Component) (l l' r r' : Sheet) → Alike (ok l) (ok l') → Alike (ok r) (ok r')
     → Alike (derive F c l r) (derive F c l' r')
@@ -142,6 +142,6 @@ module _ (F : Form) (c : Component) (left left' right right' : List ℕ) (p : Al
       go : (g h : Result Sheet) → Alike g h
           → code_of (and_then g (λ s. ok (encode F (numbered (family_of c) node s)))) ≡ code_of (and_then h (λ s. ok (encode F (numbered (family_of c) node' s))))
       go (ok s) (ok t) e = refl
-      go (ok s) (refused k) e = absurd (never (e.but-node (pos 0)))
-      go (refused k) (ok t) e = absurd (never (sym (e.but-node (pos 0))))
-      go (refused k) (refused m) e = let h = e.but-node (pos 0) in cc
+      go (ok s) (refused k) e = absurd (never (e.but_node (pos 0)))
+      go (refused k) (ok t) e = absurd (never (sym (e.but_node (pos 0))))
+      go (refused k) (refused m) e = let h = e.but_node (pos 0) in cc

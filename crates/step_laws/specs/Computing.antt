@@ -1,6 +1,6 @@
 -- Every definition that a single call computes with, opened by one name, for theorems by computation.
-use Rattle.bytes.specs.Deliver as Deliver
-use Rattle.bytes.specs.Le as Le
+use Rattle.octets.specs.Deliver as Deliver
+use Rattle.octets.specs.Le as Le
 use Rattle.numbers.specs.Checked as Checked
 use Rattle.numbers.specs.Result as Result
 use Rattle.utilities.specs.Columns as Columns

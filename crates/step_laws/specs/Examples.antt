@@ -1,7 +1,7 @@
 -- What the tables of examples are made of: sheets, single calls from bytes to bytes, slots of a work buffer, and plans.
 use Rattle.std.specs.Prelude.{◌≡◌, Bool, false, List, [], ◌∷◌, ◌++◌, ℕ, ◌-◌, ◌*◌, ℤ, length, replicate}
 use Rattle.std.proofs.Math.Option.{Option, none, some}
-use Rattle.bytes.specs.Deliver.{delivered}
+use Rattle.octets.specs.Deliver.{delivered}
 use Rattle.numbers.specs.Result.{Result, ok, refused}
 use Rattle.base.specs.Form.{narrow, longest}
 use Rattle.base.specs.Sheet.{Nature, Sheet}

@@ -1,7 +1,7 @@
 -- 01, "Shelf examples (* proved)": the starred examples as one table under one theorem, from the operands' bytes to the reply and the bytes written.
 use Rattle.std.specs.Prelude.{◌≡◌, refl, Bool, true, false, cond, ◌&&◌, List, [], ◌∷◌, ℕ, ◌^◌, ℤ, pos, neg_ℤ, length, replicate, leb}
 use Rattle.std.proofs.Math.Option.{Option, none, some}
-use Rattle.bytes.specs.Deliver.{delivered}
+use Rattle.octets.specs.Deliver.{delivered}
 use Rattle.base.specs.Form.{narrow, int_type}
 use Rattle.base.specs.Sheet.{Nature, whole_range, whole_lists, Sheet}
 use Rattle.base.specs.Encode.{encode}

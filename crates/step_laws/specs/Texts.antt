@@ -1,6 +1,6 @@
 -- 02, S-2: examples of text as one table under one theorem, from the operands' bytes to the reply and the bytes written.
 use Rattle.std.specs.Prelude.{◌≡◌, refl, true, false, List, [], ◌∷◌, ◌++◌, ℕ, ◌-◌, ◌^◌, pos, take, set, replicate}
-use Rattle.bytes.specs.Le.{le_bytes}
+use Rattle.octets.specs.Le.{le_bytes}
 use Rattle.numbers.specs.Result.{ok, refused}
 use Rattle.utilities.specs.Lists.{list_from}
 use Rattle.base.specs.Form.{narrow, int_type}

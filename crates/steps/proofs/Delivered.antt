@@ -9,7 +9,7 @@ use mathlib.Core.List.{List}
 use Prim.Native.Nat.{ℕ}
 use lib.IntN.{ℤ, pos}
 use borrow.Author.Tests.{ne_eqb}
-use Rattle.bytes.specs.Le.{le_at}
+use Rattle.octets.specs.Le.{le_at}
 use Rattle.numbers.specs.Result.{Result, ok, refused, and_then, checked, first_failing}
 use Rattle.numbers.proofs.Results.{then_refused}
 use Rattle.base.specs.Form.{Form, place, node_at}

@@ -1,4 +1,6 @@
 // The step of each family but Pool: from operands that passed 3 to 5, the derived sheet at the start of a buffer.
+#![tactic(auto)]
+
 ghost use Rattle.std.specs.Prelude.{◌≡◌, pos, length};
 ghost use Rattle.numbers.specs.Result.{ok, and_then};
 ghost use Rattle.base.specs.Form.{form_of};
@@ -13,7 +15,7 @@ ghost use Rattle.deliveries.specs.Code.{step_in, Held};
 
 use base::Component;
 use base::form::Form;
-use bytes::Put;
+use octets::Put;
 use writer::Derived;
 
 // Abs and Negative copy their operand but for its nature.

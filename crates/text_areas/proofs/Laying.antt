@@ -12,11 +12,11 @@ use lib.IntN.{ℤ, pos}
 use lib.ListN.{length, take, drop, get_or, length-append, length-drop, take-append-drop}
 use lib.Seq.{take_all, take_at, take-take, take-append-le, drop_at, drop-drop, take-add, get_or-take, get_or-drop, length-take-le}
 use borrow.Rule.Slice.PartMut.{put_mid}
-use Rattle.bytes.specs.Le.{le_at, le_bytes}
-use Rattle.bytes.specs.Wrote.{Wrote, Pending}
-use Rattle.bytes.proofs.Widths.{length_le_bytes}
-use Rattle.bytes.proofs.Round.{le_at_cong, number_back}
-use Rattle.bytes.proofs.Appends.{pending_start, pending_more, pending_end}
+use Rattle.octets.specs.Le.{le_at, le_bytes}
+use Rattle.octets.specs.Wrote.{Wrote, Pending}
+use Rattle.octets.proofs.Widths.{length_le_bytes}
+use Rattle.octets.proofs.Round.{le_at_cong, number_back}
+use Rattle.octets.proofs.Appends.{pending_start, pending_more, pending_end}
 use Rattle.utilities.specs.Lists.{list_from}
 use Rattle.base.specs.Form.{Form}
 use Rattle.base.specs.Decode.{as_bits}

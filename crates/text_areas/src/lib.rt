@@ -1,7 +1,9 @@
 // Texts laid behind their values: the area of a derived sheet, and 28.
+#![tactic(auto)]
+
 ghost use Rattle.std.specs.Prelude.{◌≡◌, List, map, ℕ, ◌+◌, ◌*◌, ◌^◌, ◌≤◌, ◌<◌, ℤ, pos, length, take, drop, get_or};
-ghost use Rattle.bytes.specs.Le.{le_at, le_bytes};
-ghost use Rattle.bytes.specs.Wrote.{Wrote};
+ghost use Rattle.octets.specs.Le.{le_at, le_bytes};
+ghost use Rattle.octets.specs.Wrote.{Wrote};
 ghost use Rattle.base.specs.Form.{form_of};
 ghost use Rattle.base.specs.Encode.{whole_bits, list_bytes, spot};
 ghost use Rattle.texts.specs.Joins.{join_in, JoinLies, join_at};
@@ -38,7 +40,7 @@ fn put_spot(values: &mut [u8], at: usize, start: usize, size: usize) -> usize
     ensures { Wrote values.old at 8 (le_bytes 8 (spot start size)) values.new result × (drop result values.new ≡ drop result values.old) }
 {
     let end = at + form::VALUE_WIDTH;
-    bytes::put_u64(&mut values[at..end], 0, spot(start, size));
+    octets::put_u64(&mut values[at..end], 0, spot(start, size));
     end
 }
 
@@ -61,7 +63,7 @@ pub fn lay_texts(
     let mut i: usize = 0;
     while i < t {
         let place = form::VALUE_WIDTH * i;
-        let c = bytes::u64_at(values, place);
+        let c = octets::u64_at(values, place);
         let size = texts::join_length(c);
         if limit < at + size {
             return Derived::Refused(refusals::TOO_MUCH_TEXT);

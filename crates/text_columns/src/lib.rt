@@ -1,4 +1,6 @@
 // A column's texts of two sheets, joined by Add or united by Pool: each once, as where it lies.
+#![tactic(auto)]
+
 ghost use Rattle.std.specs.Prelude.{ℕ, ◌+◌, ◌^◌, ◌≤◌, ◌<◌, pos, length, take, get_or};
 ghost use Rattle.utilities.specs.Lists.{firsts};
 ghost use Rattle.base.specs.Form.{form_of};
@@ -28,11 +30,11 @@ fn note_pairs(
     let mut k: usize = 0;
     let mut i: usize = 0;
     while i < l {
-        let a = bytes::complement(us[i]);
+        let a = octets::complement(us[i]);
         i += 1;
         let mut m: usize = 0;
         while m < r {
-            let z = bytes::signed(texts::join(a, bytes::complement(bs[m])));
+            let z = octets::signed(texts::join(a, octets::complement(bs[m])));
             m += 1;
             k = texts::note_join(f, left, right, store, k, z);
         }
@@ -63,7 +65,7 @@ fn note_both(
     }
     let mut m: usize = 0;
     while m < r {
-        let z = bytes::signed(texts::join(0, bytes::complement(bs[m])));
+        let z = octets::signed(texts::join(0, octets::complement(bs[m])));
         k = texts::note_join(f, left, right, store, k, z);
         m += 1;
     }

@@ -45,7 +45,7 @@ module _ {F : Form} {s : List ℕ} (laid : Laid F) (t : Texts F s) where
   pub texts_read : (r : List ℕ) → lists F s (text_in F s) ≡ map (map (join_at F s r)) (lists F s as_part)
   texts_read r =
       let v : ℕ → ℕ = category_at F s (group_count F s) (category_count F s) in
-      let fit = lists_fit (passed F s t.listed.passed) t.listed.no-range in
+      let fit = lists_fit (passed F s t.listed.passed) t.listed.no_range in
       lists_map F s as_part (text_in F s) (join_at F s r) (λ k l. let b = read_small laid t fit k l in text_read F s r (v k) b.0 b.1)
 
   pub column_texts : (j : ℕ) → firsts same_text (pick (lists F s (text_in F s)) j) ≡ map (join_at F s s) (parts_of F s j)

@@ -12,7 +12,7 @@ use native.Mathlib.Nat.{zero-add, div-add-mod'}
 use native.Mathlib.Omega.{arith}
 use lib.IntN.{ℤ, pos}
 use lib.ListN.{length, take, get_or, get_or-map}
-use Rattle.bytes.specs.Le.{le_at}
+use Rattle.octets.specs.Le.{le_at}
 use Rattle.utilities.specs.Lists.{list_from}
 use Rattle.utilities.proofs.Members.{at_member, firsts_only}
 use Rattle.utilities.proofs.Built.{list_from_at}

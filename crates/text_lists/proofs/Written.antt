@@ -12,7 +12,7 @@ use lib.IntN.{ℤ}
 use lib.ListN.{length, take, length-map, length-append}
 use lib.Dec.{ltb}
 use borrow.Author.Tests.{ltb-true, ltb-false, lt-ltb, le-ltb}
-use Rattle.bytes.specs.Le.{le_bytes}
+use Rattle.octets.specs.Le.{le_bytes}
 use Rattle.numbers.specs.Result.{Result, ok, refused, and_then}
 use Rattle.utilities.specs.Lists.{list_from}
 use Rattle.base.specs.Form.{Form, text_lists_nature}

@@ -1,4 +1,6 @@
 // Texts of two sheets joined by Add or united by Pool: the lists of the result, written into two lent buffers.
+#![tactic(auto)]
+
 ghost use Rattle.std.specs.Prelude.{◌≡◌, map, ◌≤◌, ◌<◌};
 ghost use Rattle.numbers.specs.Result.{and_then};
 ghost use Rattle.utilities.specs.Lists.{list_from};

@@ -31,7 +31,7 @@ use Rattle.texts.proofs.Codes.{left_of_lem, right_of, start_of, length_of, part_
 
 module _ {F : Form} {s : List ℕ} where
   pub empty_lies : Listed F s → PartLies F s 0
-  empty_lies l = record { small = omega arith; area = omega (arith, area_ends (passed F s l.passed) l.no-range); within = omega arith }
+  empty_lies l = record { small = omega arith; area = omega (arith, area_ends (passed F s l.passed) l.no_range); within = omega arith }
 
   -- a text that ends within the area starts and ends below 2 ^ 16
   pub ends_small : Laid F → Listed F s → (v : ℕ) → start_in v + length_in v ≤ area_size F s → (start_in v < 2 ^ 16) × (length_in v < 2 ^ 16)
@@ -47,7 +47,7 @@ module _ {F : Form} {s : List ℕ} where
       let b = ends_small laid l v h in
       record {
         small = part_fits v b.0 b.1;
-        area = omega (arith, area_ends (passed F s l.passed) l.no-range);
+        area = omega (arith, area_ends (passed F s l.passed) l.no_range);
         within = rw (start_of v b.0, length_of v b.0) h;
       }
 
@@ -97,7 +97,7 @@ module _ {F : Form} {s : List ℕ} (laid : Laid F) (t : Texts F s) where
   list_lies j h z m =
       let g = group_count F s in
       let n = category_count F s in
-      let list = lists_from F s as_part j (lists_fit (passed F s t.listed.passed) t.listed.no-range) h in
+      let list = lists_from F s as_part j (lists_fit (passed F s t.listed.passed) t.listed.no_range) h in
       list_all F s as_part (λ (x : ℤ). PartLies F s (whole_bits x)) g n j (n - 0) 0 (λ i l. number_lies laid t.listed (value F s i) (text_within_lem F s t.fields t.is-text i (omega (arith, l)))) z (subst (Memᴰ z) list m)
 
   pub parts_lie : (j : ℕ) → Reaches F s j → (z : ℤ) → Memᴰ z (parts_of F s j) → PartLies F s (whole_bits z)

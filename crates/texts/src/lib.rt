@@ -1,4 +1,6 @@
 // Texts of a sheet, each kept as where it stands there, and the join of two as the two places: joins are compared without being stored.
+#![tactic(auto)]
+
 ghost use Rattle.std.specs.Prelude.{◌≡◌, List, [], ◌+◌, ◌^◌, ◌≤◌, ◌<◌, ℤ, length, take, get_or};
 ghost use Rattle.utilities.specs.Lists.{has, noted, firsts};
 ghost use Rattle.base.specs.Form.{form_of, group_count, category_count, list_count, area_at};
@@ -117,10 +119,10 @@ fn has_join(f: Form, left: &[u8], right: &[u8], store: &[i64], k: usize, z: i64)
     requires { (k ≤ length store.now) × Joins (form_of f) left.now right.now k store.now × JoinLies (form_of f) left.now right.now (whole_bits z) }
     ensures { result ≡ has (same_join (form_of f) left.now right.now) z (take k store.now) }
 {
-    let c = bytes::complement(z);
+    let c = octets::complement(z);
     let mut i: usize = 0;
     while i < k {
-        if same_join(f, left, right, c, bytes::complement(store[i])) {
+        if same_join(f, left, right, c, octets::complement(store[i])) {
             return true;
         }
         i += 1;
@@ -166,7 +168,7 @@ fn text_list(f: Form, s: &[u8], j: usize, out: &mut [i64]) -> usize
             continue;
         }
         let p = part(base::u64_at(s, at));
-        n = note_join(f, s, s, out, n, bytes::signed(p));
+        n = note_join(f, s, s, out, n, octets::signed(p));
     }
     n
 }

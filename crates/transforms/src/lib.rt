@@ -1,4 +1,6 @@
 // The single step: `propagate_property` of the ten components, from the operands' bytes to the derived sheet's.
+#![tactic(auto)]
+
 ghost use Rattle.std.specs.Prelude.{◌≡◌, cond, length};
 ghost use Rattle.base.specs.Form.{form_of};
 ghost use Rattle.base.specs.Checks.{read};
@@ -10,7 +12,7 @@ ghost use Rattle.deliveries.specs.Code.{step_in, Held};
 
 use base::form::Form;
 use base::{Component, Family};
-use bytes::Put;
+use octets::Put;
 
 // 3 to 5 of the right sheet, where the family reads it.
 fn right_code(f: Form, family: Family, right: &[u8]) -> u32

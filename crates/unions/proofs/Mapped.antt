@@ -7,7 +7,7 @@ use mathlib.Core.Bool.{Bool}
 use mathlib.Core.List.{List, [], ◌∷◌, ◌++◌, map, map-append}
 use Prim.Native.Nat.{ℕ, zero, suc, ◌+◌}
 use lib.ListN.{replicate}
-use Rattle.bytes.specs.Le.{le_bytes}
+use Rattle.octets.specs.Le.{le_bytes}
 use Rattle.numbers.specs.Result.{Result, ok, refused, and_then}
 use Rattle.utilities.specs.Lists.{firsts, repeated, standardized}
 use Rattle.utilities.specs.Columns.{each_pair}

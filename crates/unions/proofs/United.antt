@@ -98,6 +98,6 @@ module _ {F : Form} {left right : List ℕ} (u : Uniting F left right) (columns 
           rw (nature_bool_lists F left e, nature_bool_lists F right f, e)
           (ap (lists_written F bool_lists_nature)
           (read
-          ∙ ap₂ (united eq_z columns) (bools_whole F left u.left-fields e) (bools_whole F right u.right-fields f)
+          ∙ ap₂ (united eq_z columns) (bools_whole F left u.left_fields e) (bools_whole F right u.right_fields f)
           ∙ united_map eqb eq_z pos (λ a b. refl) columns ls ms)
           ∙ bools_written F (united eqb columns ls ms))

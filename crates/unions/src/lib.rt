@@ -1,4 +1,6 @@
 // Categories united by Pool: of two sheets, left's lists followed by right's, repeats gone, written into two lent buffers.
+#![tactic(auto)]
+
 ghost use Rattle.std.specs.Prelude.{◌≡◌, List, ◌++◌, ◌+◌, ◌^◌, ◌≤◌, ◌<◌, ℤ, length, take};
 ghost use Rattle.numbers.specs.Result.{and_then};
 ghost use Rattle.numbers.specs.Kind.{eq_z};

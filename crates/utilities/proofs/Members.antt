@@ -84,6 +84,7 @@ module _ {X : Type 0} (same : X → X → Bool) where
 
     firsts_from_all : (z : X) (seen xs : List X) → Memᴰ z xs → Memᴰ z (firsts_from same seen xs)
     unfolding firsts_from
+    firsts_from_all z seen [] e = elim e [ ]
     firsts_from_all z seen (x ∷ xs) (Memᴰ.head e) = firsts_from_old z (noted same seen x) xs (Memᴰ.cast e (noted_self seen x))
     firsts_from_all z seen (x ∷ xs) (Memᴰ.tail m) = firsts_from_all z (noted same seen x) xs m
 

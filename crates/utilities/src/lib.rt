@@ -1,4 +1,6 @@
 // Lists of whole numbers without repeats: first occurrences stay. Lists spread over columns.
+#![tactic(auto)]
+
 ghost use Rattle.std.specs.Prelude.{◌≡◌, ◌≤◌, ◌<◌, length, take, replicate};
 ghost use Rattle.numbers.specs.Kind.{eq_z};
 ghost use Rattle.utilities.specs.Lists.{has};
@@ -27,7 +29,7 @@ fn has(s: &[i64], n: usize, x: i64) -> bool
     false
 }
 
-#[derive(Drop)]
+#[derive(Clone, Copy)]
 pub enum Noted {
     // How many values there are then.
     At(usize),
@@ -56,7 +58,7 @@ pub fn clear_hints(hints: &mut [u8])
 fn hint_at(x: i64) -> usize
     ensures { result ≡ hint_at x }
 {
-    (bytes::complement(x) % 256) as usize
+    (octets::complement(x) % 256) as usize
 }
 
 // That a value was noted behind n others. Where n is too great for a byte the hint is a wrong one, which costs time alone.
@@ -71,7 +73,7 @@ fn has_hinted(s: &[i64], n: usize, x: i64, hints: &[u8], at: usize) -> bool
     requires { (n ≤ length s.now) × Hinting hints.now (take n s.now) × (at ≡ hint_at x) }
     ensures { result ≡ has eq_z x (take n s.now) }
 {
-    let hint = bytes::wide(hints[at]);
+    let hint = octets::wide(hints[at]);
     if hint == 0 {
         return false;
     }

@@ -1,4 +1,6 @@
 // The steps of a plan, in buffers that are made here.
+#![tactic(auto)]
+
 ghost use Rattle.std.specs.Prelude.{◌≡◌};
 ghost use Rattle.base.specs.Form.{narrow};
 ghost use Rattle.plan_form.specs.Form.{leaf_count};

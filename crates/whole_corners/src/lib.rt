@@ -1,4 +1,6 @@
 // Products and quotients of whole ends, for Multiply and Divide. An entry is [a, c] on the left and [d, f] on the right.
+#![tactic(auto)]
+
 ghost use Rattle.std.specs.Prelude.{◌≡◌};
 ghost use Rattle.numbers.specs.Kind.{whole, fitting, lesser, greater, least, greatest};
 ghost use Rattle.base.specs.Code.{whole_end, of_whole};

@@ -1,4 +1,6 @@
 // The end rules of the ten components on whole numbers. An entry is [a, c] on the left and [d, f] on the right.
+#![tactic(auto)]
+
 ghost use Rattle.std.specs.Prelude.{◌≡◌};
 ghost use Rattle.numbers.specs.Result.{ok};
 ghost use Rattle.numbers.specs.Kind.{whole, fitting, lesser, greater};

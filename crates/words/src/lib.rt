@@ -1,4 +1,6 @@
 // What programs write about sheets: counts and the names of the components, with words behind them; and the magnitude of a number with a sign.
+#![tactic(auto)]
+
 ghost use Rattle.std.specs.Prelude.{◌≡◌};
 ghost use Rattle.words.specs.Signed.{magnitude_of};
 

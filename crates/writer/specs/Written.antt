@@ -1,7 +1,7 @@
 -- A nature as it is written: its number, its sizes, and the bytes of its two arrays.
 use Rattle.std.specs.Prelude.{List, [], ◌++◌, ℕ, ◌+◌, ◌*◌, ◌≤◌, ℤ, length, take}
-use Rattle.bytes.specs.declared.Put.{Put}
-use Rattle.bytes.specs.declared.Put.TheVariants as U
+use Rattle.octets.specs.declared.Put.{Put}
+use Rattle.octets.specs.declared.Put.TheVariants as U
 use Rattle.numbers.specs.Result.{Result, ok, refused, and_then}
 use Rattle.base.specs.Form.{Form}
 use Rattle.base.specs.Sheet.{Group, Nature, absent, whole_range, float_range, whole_lists, bool_lists, float_lists, text_lists, Fields}

@@ -1,7 +1,9 @@
 // Derived natures in two buffers, and the sheet written from one.
+#![tactic(auto)]
+
 ghost use Rattle.std.specs.Prelude.{◌≡◌, cond, ◌+◌, ◌-◌, ◌*◌, ◌^◌, ◌≤◌, ◌<◌, length, take, drop};
-ghost use Rattle.bytes.specs.Le.{le_bytes};
-ghost use Rattle.bytes.specs.Wrote.{Wrote};
+ghost use Rattle.octets.specs.Le.{le_bytes};
+ghost use Rattle.octets.specs.Wrote.{Wrote};
 ghost use Rattle.base.specs.Form.{form_of, place, fields_end, group_count, entries_at};
 ghost use Rattle.base.specs.Decode.{as_bits, groups_in};
 ghost use Rattle.base.specs.Encode.{whole_bits, flag, mark, bits_of, mark_bytes, value_bytes, flag_bytes, presence_bytes, size_bytes, gap_bytes, front_bytes};
@@ -11,11 +13,11 @@ ghost use Rattle.writer.specs.Room.{Room};
 
 use base::form::Form;
 use base::{Head, OptionI64, OptionU64, form};
-use bytes::Put;
+use octets::Put;
 
 // A derived nature whose two arrays stand at the start of two lent buffers: lowers and uppers of a range, or list numbers and values of categories, behind
 // which texts have their area.
-#[derive(Drop)]
+#[derive(Clone, Copy)]
 pub struct Parts {
     // Its number in 01.
     pub nature: u8,
@@ -30,7 +32,7 @@ pub struct Parts {
 }
 
 // What deriving a nature answers.
-#[derive(Drop)]
+#[derive(Clone, Copy)]
 pub enum Derived {
     Nature(Parts),
     Refused(u32),
@@ -67,7 +69,7 @@ fn signed_bits(v: OptionI64) -> u64
 {
     match v {
         OptionI64::Absent => 0,
-        OptionI64::Is(z) => bytes::complement(z),
+        OptionI64::Is(z) => octets::complement(z),
     }
 }
 
@@ -101,8 +103,8 @@ fn put_size(f: Form, buf: &mut [u8], at: usize, v: usize) -> usize
     ensures { Wrote buf.old at (form_of f).size_width (le_bytes (form_of f).size_width v) buf.new result }
 {
     match f {
-        Form::Narrow => bytes::put_u16(buf, at, v as u16),
-        Form::Wide => bytes::put_u32(buf, at, v as u32),
+        Form::Narrow => octets::put_u16(buf, at, v as u16),
+        Form::Wide => octets::put_u32(buf, at, v as u32),
     }
 }
 
@@ -112,8 +114,8 @@ pub fn put_number(f: Form, buf: &mut [u8], at: usize, j: usize) -> usize
     ensures { Wrote buf.old at (form_of f).number_width (le_bytes (form_of f).number_width j) buf.new result }
 {
     match f {
-        Form::Narrow => bytes::put_u8(buf, at, j as u8),
-        Form::Wide => bytes::put_u16(buf, at, j as u16),
+        Form::Narrow => octets::put_u8(buf, at, j as u8),
+        Form::Wide => octets::put_u16(buf, at, j as u16),
     }
 }
 
@@ -139,12 +141,12 @@ fn put_flags(buf: &mut [u8], at: usize, nature: u8, head: Head) -> usize
     requires { at + 6 ≤ length buf.old }
     ensures { Wrote buf.old at 6 (flag_bytes nature (head_fields head)) buf.new result }
 {
-    let end = bytes::put_u8(buf, at, nature);
-    let end = bytes::put_u8(buf, end, head.data_type);
-    let end = bytes::put_u8(buf, end, flag_byte(head.nullity));
-    let end = bytes::put_u8(buf, end, flag_byte(head.releasable));
-    let end = bytes::put_u8(buf, end, flag_byte(head.not_empty));
-    bytes::put_u8(buf, end, flag_byte(head.ordered))
+    let end = octets::put_u8(buf, at, nature);
+    let end = octets::put_u8(buf, end, head.data_type);
+    let end = octets::put_u8(buf, end, flag_byte(head.nullity));
+    let end = octets::put_u8(buf, end, flag_byte(head.releasable));
+    let end = octets::put_u8(buf, end, flag_byte(head.not_empty));
+    octets::put_u8(buf, end, flag_byte(head.ordered))
 }
 
 // 01's bytes 20 to 24.
@@ -157,11 +159,11 @@ fn put_presence(buf: &mut [u8], at: usize, head: Head) -> usize
     let dataset = head.dataset;
     let dimensionality = head.dimensionality;
     let sample = head.sample;
-    let end = bytes::put_u8(buf, at, signed_mark(rows));
-    let end = bytes::put_u8(buf, end, plain_mark(columns));
-    let end = bytes::put_u8(buf, end, signed_mark(dataset));
-    let end = bytes::put_u8(buf, end, signed_mark(dimensionality));
-    bytes::put_u8(buf, end, plain_mark(sample))
+    let end = octets::put_u8(buf, at, signed_mark(rows));
+    let end = octets::put_u8(buf, end, plain_mark(columns));
+    let end = octets::put_u8(buf, end, signed_mark(dataset));
+    let end = octets::put_u8(buf, end, signed_mark(dimensionality));
+    octets::put_u8(buf, end, plain_mark(sample))
 }
 
 // 01's bytes 6 to 31: the size of the text area between zeros at the end.
@@ -170,12 +172,12 @@ fn put_marks(buf: &mut [u8], at: usize, nature: u8, text: u16, head: Head) -> us
     ensures { Wrote buf.old at 26 (mark_bytes nature text (head_fields head)) buf.new result }
 {
     let end = put_flags(buf, at, nature, head);
-    let end = bytes::put_u32(buf, end, head.c_stability);
-    let end = bytes::put_u32(buf, end, head.aggregator);
+    let end = octets::put_u32(buf, end, head.c_stability);
+    let end = octets::put_u32(buf, end, head.aggregator);
     let end = put_presence(buf, end, head);
-    let end = bytes::put_u8(buf, end, 0);
-    let end = bytes::put_u16(buf, end, text);
-    bytes::put_u32(buf, end, 0)
+    let end = octets::put_u8(buf, end, 0);
+    let end = octets::put_u16(buf, end, text);
+    octets::put_u32(buf, end, 0)
 }
 
 // 01's bytes 32 to 71.
@@ -188,11 +190,11 @@ fn put_values(buf: &mut [u8], at: usize, head: Head) -> usize
     let dataset = head.dataset;
     let dimensionality = head.dimensionality;
     let sample = head.sample;
-    let end = bytes::put_u64(buf, at, signed_bits(rows));
-    let end = bytes::put_u64(buf, end, plain_bits(columns));
-    let end = bytes::put_u64(buf, end, signed_bits(dataset));
-    let end = bytes::put_u64(buf, end, signed_bits(dimensionality));
-    bytes::put_u64(buf, end, plain_bits(sample))
+    let end = octets::put_u64(buf, at, signed_bits(rows));
+    let end = octets::put_u64(buf, end, plain_bits(columns));
+    let end = octets::put_u64(buf, end, signed_bits(dataset));
+    let end = octets::put_u64(buf, end, signed_bits(dimensionality));
+    octets::put_u64(buf, end, plain_bits(sample))
 }
 
 // The zero bytes between the last field and the arrays: none or two.
@@ -202,7 +204,7 @@ fn put_gap(f: Form, buf: &mut [u8], at: usize) -> usize
 {
     match f {
         Form::Narrow => at,
-        Form::Wide => bytes::put_u16(buf, at, 0),
+        Form::Wide => octets::put_u16(buf, at, 0),
     }
 }
 
@@ -214,7 +216,7 @@ fn put_front(f: Form, buf: &mut [u8], groups: usize, p: Parts, head: Head, node:
     let end = put_sizes(f, buf, 0, groups, p.entries, p.values);
     let end = put_marks(buf, end, p.nature, p.text, head);
     let end = put_values(buf, end, head);
-    let end = bytes::put_i64(buf, end, node);
+    let end = octets::put_i64(buf, end, node);
     put_gap(f, buf, end)
 }
 

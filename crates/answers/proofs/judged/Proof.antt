@@ -23,37 +23,34 @@ on_filled : (list : Stored) (line : List ℕ) (o : Outcome) {n : ℕ} {lent expe
 unfolding defined stored with_number
 on_filled list line o a f g h = rw a (rw (sym f, sym g) at h)
 
-returns : tie.Need-returns
-returns c = rw (sym c.before.is-comment.ensures ∙ c.if1.true) refl
+returns : tie.Need-returns-then-is_comment
+returns c = rw (sym c.is_comment.ensures ∙ c.if-is_comment.true) refl
 
-returns-2 : tie.Need-returns-2
-returns-2 c = rw (sym c.before.before.before.before.before.is-comment.ensures ∙ c.before.before.before.before.if1.false) tt
+returns-2 : tie.Need-returns-in_default
+returns-2 c = rw (sym c.is_comment.ensures ∙ c.if-is_comment.false) tt
 
-returns-3 : tie.Need-returns-3
-returns-3 c = rw (sym c.before.before.before.before.before.before.before.is-comment.ensures ∙ c.before.before.before.before.before.before.if1.false) tt
+returns-3 : tie.Need-returns-then-n-gt-ROOM
+returns-3 c = rw (sym c.is_comment.ensures ∙ c.if-is_comment.false) tt
 
-slice-aggregate-on-lent : tie.Need-slice-aggregate-on-lent
-slice-aggregate-on-lent c = sym (length-take-le c.before.before.before.before.before.told.given.0.0 c.before.before.filled.result (omega (arith, c.before.before.before.if2.false, c.before.before.filled.ensures.0)))
+slice-aggregate-on-lent : tie.Need-slice_bounds-on_lent-end
+slice-aggregate-on-lent c = sym (length-take-le c.in-Is.length c.filled-lent.result (omega (arith, c.if-n-gt-ROOM.false, c.filled-lent.ensures.0)))
 
-slice-aggregate-on-lent-2 : tie.Need-slice-aggregate-on-lent-2
-slice-aggregate-on-lent-2 c = sym (length-take-le c.before.before.before.before.before.before.told.given.0.0 c.before.before.filled2.result (omega (arith, c.before.before.before.before.if2.false, c.before.before.filled2.ensures.0)))
+slice-aggregate-on-lent-2 : tie.Need-slice_bounds-on_lent-end-2
+slice-aggregate-on-lent-2 c = sym (length-take-le c.in-Is.length c.filled-expected.result (omega (arith, c.if-n-gt-ROOM.false, c.filled-expected.ensures.0)))
 
-returns-4 : tie.Need-returns-4
+returns-4 : tie.Need-returns
 returns-4 c =
     let second = c.before.before.before.before.before in
     let first = second.before in
     let bounded = first.before in
-    let told = bounded.before.before in
-    let number = told.before.before in
-    let begun = number.before.before in
-    let a = begun.before.before.before.args in
+    let a = c.args in
     let line = a.line.now in
-    let n = told.told.given.0.0 in
-    let within : n ≤ slot_at narrow node_limit = omega (arith, bounded.if2.false) in
-    let length = ap (λ (k : ℕ). number_at k line) (sym number.before.length-field.ensures) ∙ sym number.number_at.ensures ∙ told.told.given.1 in
-    let made = c.before.before.on-lent in
-    let all = on_filled a.list line made.result length (part_filled n _ within first.filled.ensures.1) (part_filled n _ within second.filled2.ensures.1) made.ensures in
-    rw (sym begun.before.is-comment.ensures ∙ begun.if1.false) all
+    let n = c.in-Is.length in
+    let within : n ≤ slot_at narrow node_limit = omega (arith, c.if-n-gt-ROOM.false) in
+    let length = ap (λ (k : ℕ). number_at k line) (sym c.length_field.ensures) ∙ sym c.number_at-told.ensures ∙ c.in-Is.is in
+    let made = c.on_lent in
+    let all = on_filled a.list line made.result length (part_filled n _ within c.filled-lent.ensures.1) (part_filled n _ within c.filled-expected.ensures.1) made.ensures in
+    rw (sym c.is_comment.ensures ∙ c.if-is_comment.false) all
 
 pub judged_spec : {M : Type 1} → statement M
 judged_spec =

@@ -4,11 +4,11 @@ use borrow.Author.Rules.{rules}
 use Rattle.answers.proofs.on_lent.Statement.{statement}
 use Rattle.answers.proofs.on_lent.Tie as tie
 
-returns : tie.Need-returns
-returns c = rw c.before.before.before.before.before.before.before.enum_told.given.1 c.before.before.before.before.judged.ensures
+returns : tie.Need-returns-in-Calls
+returns c = rw c.in-Calls.is c.judged.ensures
 
-returns-2 : tie.Need-returns-2
-returns-2 c = rw c.before.before.before.before.before.before.before.enum-told2.given.1 c.before.before.before.before.judged2.ensures
+returns-2 : tie.Need-returns-in-Plans
+returns-2 c = rw c.in-Plans.is c.judged-in-Plans.ensures
 
 pub on_lent_spec : {M : Type 1} → statement M
 on_lent_spec =

@@ -7,19 +7,18 @@ use Rattle.array_checks.proofs.Gathering.{Gathering, gathering_more, gathered}
 use Rattle.array_checks.proofs.bools_permitted.Statement.{statement}
 use Rattle.array_checks.proofs.bools_permitted.Tie as tie
 
-abbrev invariant-loop : tie.invariant-loop
+abbrev invariant-loop : tie.invariant-loop-i
 invariant-loop f s g n t bad₀ i₀ bad i = Gathering (bool_permitted (form_of f) s) t i bad (holds_from t 0 (bool_permitted (form_of f) s))
 
-abbrev decreases-loop : tie.decreases-loop
+abbrev decreases-loop : tie.decreases-loop-i
 decreases-loop f s g n t bad₀ i₀ bad i = t - i
 
-loop-again : tie.Need-loop-preserved invariant-loop decreases-loop
+loop-again : tie.Need-loop-i-preserved invariant-loop decreases-loop
 loop-again c =
     let v = c.before in
-    let t = v.before in
-    let z = t.before.before.before.requires in
-    let value = c.u64-at.result in
-    gathering_more t.before.loop.invariant t.loop-test.true (ltb 1 value) (lt_not_le 1 value ∙ rw (c.u64-at.ensures, v.value-at.ensures, z.groups, z.categories))
+    let z = c.requires in
+    let value = c.u64_at.result in
+    gathering_more c.loop-i.invariant c.loop-i-test.true (ltb 1 value) (lt_not_le 1 value ∙ rw (c.u64_at.ensures, c.value_at.ensures, z.groups, z.categories))
 
 pub bools_permitted_spec : {M : Type 1} → statement M
 bools_permitted_spec =

@@ -8,28 +8,27 @@ use Rattle.array_checks.proofs.Words.{two_more}
 use Rattle.array_checks.proofs.entry_faults.Statement.{statement}
 use Rattle.array_checks.proofs.entry_faults.Tie as tie
 
-abbrev invariant-loop : tie.invariant-loop
+abbrev invariant-loop : tie.invariant-loop-i
 invariant-loop f s floats g n bad₀ unordered₀ i₀ bad unordered i =
     Gathering (ends_permitted (form_of f) s) n i (not (eqb bad 0)) (holds_from n 0 (ends_permitted (form_of f) s))
     × Gathering (entry_holds (form_of f) floats s) n i unordered (holds_from n 0 (entry_holds (form_of f) floats s))
 
-abbrev decreases-loop : tie.decreases-loop
+abbrev decreases-loop : tie.decreases-loop-i
 decreases-loop f s floats g n bad₀ unordered₀ i₀ bad unordered i = n - i
 
-loop-again : tie.Need-loop-preserved invariant-loop decreases-loop
+loop-again : tie.Need-loop-i-preserved invariant-loop decreases-loop
 loop-again c =
     let u = c.before in
     let l = u.before in
     let p = l.before in
-    let t = p.before.before in
-    let z = t.before.before.before.requires in
-    let x = l.end-fault.result in
-    let y = u.end-fault2.result in (
-      gathering_same (two_more t.before.loop.bad x y)
-          (gathering_more t.before.loop.invariant.0 t.loop-test.true (not (eqb x 0 && eqb y 0))
-          (rw (l.end-fault.ensures, u.end-fault2.ensures, p.before.lower-at.ensures, p.upper-at.ensures, z.groups, z.lists))),
-      gathering_more t.before.loop.invariant.1 t.loop-test.true c.span-fails.result
-          (rw (c.span-fails.ensures, p.before.lower-at.ensures, p.upper-at.ensures, z.groups, z.lists)),
+    let z = c.requires in
+    let x = c.end_fault.result in
+    let y = c.end_fault-in-loop-i.result in (
+      gathering_same (two_more c.loop-i.bad x y)
+          (gathering_more c.loop-i.invariant.0 c.loop-i-test.true (not (eqb x 0 && eqb y 0))
+          (rw (c.end_fault.ensures, c.end_fault-in-loop-i.ensures, c.lower_at-lower.ensures, c.upper_at-upper.ensures, z.groups, z.lists))),
+      gathering_more c.loop-i.invariant.1 c.loop-i-test.true c.span_fails-unordered.result
+          (rw (c.span_fails-unordered.ensures, c.lower_at-lower.ensures, c.upper_at-upper.ensures, z.groups, z.lists)),
     )
 
 pub entry_faults_spec : {M : Type 1} → statement M

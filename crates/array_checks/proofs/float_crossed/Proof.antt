@@ -8,9 +8,8 @@ use Rattle.array_checks.proofs.float_crossed.Tie as tie
 
 returns : tie.Need-returns
 returns c =
-    let u = c.before.before in
-    let a = u.before.before.before.args in
-    rw (c.before.byte_at.ensures, c.byte-at2.ensures, u.before.f64-at.ensures, u.f64-at2.ensures) (crossed_is float as_float a.s.now a.lower a.upper)
+    let a = c.args in
+    rw (c.byte_at.ensures, c.byte_at-2.ensures, c.f64_at-a.ensures, c.f64_at-c.ensures) (crossed_is float as_float a.s.now a.lower a.upper)
 
 pub float_crossed_spec : {M : Type 1} → statement M
 float_crossed_spec =

@@ -6,9 +6,8 @@ use Rattle.array_checks.proofs.is_unbounded.Tie as tie
 
 returns : tie.Need-returns
 returns c =
-    let u = c.before in
-    let a = u.before.before.before.args in
-    rw (u.before.byte_at.ensures, c.is-far.ensures, u.u64-at.ensures) (unbounded_is a.s.now a.at)
+    let a = c.args in
+    rw (c.byte_at.ensures, c.is_far.ensures, c.u64_at.ensures) (unbounded_is a.s.now a.at)
 
 pub is_unbounded_spec : {M : Type 1} → statement M
 is_unbounded_spec = tie.close (tie.spec (λ c κs. search rules) (λ c. search rules) (λ c κs. search rules) (λ c κs. search rules) returns)

@@ -19,19 +19,17 @@ module _ (F : Form) (s : List ℕ) {t : ℕ} (count : t ≡ category_count F s) 
   others : (byte_at F nature_at s ≡ bool_lists_nature → ⊥) → holds_from t 0 (number_permitted F s) ≡ lists_permitted F s
   others e = (λ j. holds_from t 0 (λ i. sym (and-true (number_permitted F s i)) j)) ∙ tested false (ne_eqb (byte_at F nature_at s) bool_lists_nature e)
 
-returns : tie.Need-returns
+returns : tie.Need-returns-then-nature_of-eq-BOOL_LISTS
 returns c =
     let k = c.before.before in
-    let b = k.before.before.before in
-    ap₂ ◌&&◌ k.before.numbers-permitted.ensures c.bools-permitted.ensures
-    ∙ bools (form_of b.args.f) b.args.s.now b.requires.categories (sym k.nature-of.ensures ∙ c.before.if1.true)
+    ap₂ ◌&&◌ c.numbers_permitted-numbers.ensures c.bools_permitted.ensures
+    ∙ bools (form_of c.args.f) c.args.s.now c.requires.categories (sym c.nature_of.ensures ∙ c.if-nature_of-eq-BOOL_LISTS.true)
 
-returns-2 : tie.Need-returns-2
+returns-2 : tie.Need-returns
 returns-2 c =
     let k = c.before in
-    let b = k.before.before.before in
-    k.before.numbers-permitted.ensures
-    ∙ others (form_of b.args.f) b.args.s.now b.requires.categories (λ e. c.if1.false (k.nature-of.ensures ∙ e))
+    c.numbers_permitted-numbers.ensures
+    ∙ others (form_of c.args.f) c.args.s.now c.requires.categories (λ e. c.if-nature_of-eq-BOOL_LISTS.false (c.nature_of.ensures ∙ e))
 
 pub lists_permitted_spec : {M : Type 1} → statement M
 lists_permitted_spec = tie.close (tie.spec (λ c κs. search rules) (λ c κs. search rules) (λ c κs. search rules) returns returns-2)

@@ -4,14 +4,13 @@ use Rattle.std.proofs.Common.{rules}
 use Rattle.array_checks.proofs.span_fails.Statement.{statement}
 use Rattle.array_checks.proofs.span_fails.Tie as tie
 
-returns : tie.Need-returns
+returns : tie.Need-returns-then-floats
 returns c =
     let u = c.before in
-    let l = u.before in
-    rw (l.before.if1.true, l.is-unbounded.ensures, u.is-unbounded2.ensures, c.float-crossed.ensures, not-not)
+    rw (c.if-floats.true, c.is_unbounded.ensures, c.is_unbounded-then-floats.ensures, c.float_crossed.ensures, not-not)
 
-returns-2 : tie.Need-returns-2
-returns-2 c = rw (c.before.if1.false, c.whole-crossed.ensures, not-not)
+returns-2 : tie.Need-returns
+returns-2 c = rw (c.if-floats.false, c.whole_crossed.ensures, not-not)
 
 pub span_fails_spec : {M : Type 1} → statement M
 span_fails_spec =

@@ -9,11 +9,10 @@ use Rattle.array_checks.proofs.whole_crossed.Tie as tie
 returns : tie.Need-returns
 returns c =
     let u = c.before.before in
-    let l = u.before in
-    let a = l.before.before.args in
-    let x : to_z w64 (of_z w64 l.i64-at.result) ≡ l.i64-at.result = search rules in
-    let y : to_z w64 (of_z w64 u.i64-at2.result) ≡ u.i64-at2.result = search rules in
-    rw (x, y, c.before.byte_at.ensures, c.byte-at2.ensures, l.i64-at.ensures, u.i64-at2.ensures) (crossed_is whole as_whole a.s.now a.lower a.upper)
+    let a = c.args in
+    let x : to_z w64 (of_z w64 c.i64_at-a.result) ≡ c.i64_at-a.result = search rules in
+    let y : to_z w64 (of_z w64 c.i64_at-c.result) ≡ c.i64_at-c.result = search rules in
+    rw (x, y, c.byte_at.ensures, c.byte_at-2.ensures, c.i64_at-a.ensures, c.i64_at-c.ensures) (crossed_is whole as_whole a.s.now a.lower a.upper)
 
 pub whole_crossed_spec : {M : Type 1} → statement M
 whole_crossed_spec =

@@ -8,8 +8,8 @@ use Rattle.base.proofs.i64_in.Tie as tie
 
 returns : tie.Need-returns
 returns c =
-    let back = to_z-of_z {w = w64} {z = c.i64-at.result} (record { sfits = c.i64-at.type-inv }) in
-    rw (back, c.i64-at.ensures, c.before.place.ensures)
+    let back = to_z-of_z {w = w64} {z = c.i64_at.result} (record { sfits = c.i64_at.type_inv }) in
+    rw (back, c.i64_at.ensures, c.place.ensures)
 
 pub i64_in_spec : {M : Type 1} → statement M
 i64_in_spec = tie.close (tie.spec (λ c κs. search rules) (λ c κs. let l = laid c.before.before.args.f in search rules) returns)

@@ -5,15 +5,13 @@ use Rattle.base.proofs.Numbers.{one_byte_at}
 use Rattle.base.proofs.list_number.Statement.{statement}
 use Rattle.base.proofs.list_number.Tie as tie
 
-returns : tie.Need-returns
+returns : tie.Need-returns-in-Narrow
 returns c =
-    let m = c.before.before in
-    rw (c.wide.ensures.0, c.before.byte_at.ensures, m.before.before.entries_at.ensures.0, m.enum_told.given.1, one_byte_at)
+    rw (c.wide.ensures.0, c.byte_at.ensures, c.entries_at-start.ensures.0, c.in-Narrow.is, one_byte_at)
 
-returns-2 : tie.Need-returns-2
+returns-2 : tie.Need-returns-in-Wide
 returns-2 c =
-    let m = c.before in
-    rw (c.u16-at.ensures, m.before.before.entries_at.ensures.0, m.enum-told2.given.1)
+    rw (c.u16_at.ensures, c.entries_at-start.ensures.0, c.in-Wide.is)
 
 pub list_number_spec : {M : Type 1} → statement M
 list_number_spec =

@@ -7,15 +7,14 @@ use Rattle.base.specs.Decode.{option_at}
 use Rattle.base.proofs.option_u64_in.Statement.{statement}
 use Rattle.base.proofs.option_u64_in.Tie as tie
 
-returns : tie.Need-returns
+returns : tie.Need-returns-then-byte_in-eq0
 unfolding option_at
-returns c = rw (← c.before.byte-in.ensures, eq-eqb c.before.byte-in.result 0 c.if1.true)
+returns c = rw (← c.byte_in.ensures, eq-eqb c.byte_in.result 0 c.if-byte_in-eq0.true)
 
-returns-2 : tie.Need-returns-2
+returns-2 : tie.Need-returns
 unfolding option_at
 returns-2 c =
-    let b = c.before.before in
-    rw (← b.byte-in.ensures, ne_eqb b.byte-in.result 0 c.before.if1.false) (ap some c.u64-in.ensures)
+    rw (← c.byte_in.ensures, ne_eqb c.byte_in.result 0 c.if-byte_in-eq0.false) (ap some c.u64_in.ensures)
 
 pub option_u64_in_spec : {M : Type 1} → statement M
 option_u64_in_spec = tie.close (tie.spec (λ c κs. search rules) returns (λ c κs. search rules) returns-2)

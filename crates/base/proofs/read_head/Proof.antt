@@ -7,22 +7,19 @@ use Rattle.base.proofs.read_head.Tie as tie
 returns : tie.Need-returns
 unfolding fields_in
 returns c =
-    let d = c.before.before in
-    let s = d.before.before.before in
-    let o = s.before.before.before in
     rw (
-      o.before.before.before.byte-in.ensures,
-      o.before.before.flag-in.ensures,
-      o.before.flag-in2.ensures,
-      o.flag-in3.ensures,
-      s.before.before.flag-in4.ensures,
-      s.before.u32-in.ensures,
-      s.u32-in2.ensures,
-      d.before.before.option-i64-in.ensures,
-      d.before.option-u64-in.ensures,
-      d.option-i64-in2.ensures,
-      c.before.option-i64-in3.ensures,
-      c.option-u64-in2.ensures,
+      c.byte_in.ensures,
+      c.flag_in.ensures,
+      c.flag_in-2.ensures,
+      c.flag_in-3.ensures,
+      c.flag_in-4.ensures,
+      c.u32_in.ensures,
+      c.u32_in-2.ensures,
+      c.option_i64_in.ensures,
+      c.option_u64_in.ensures,
+      c.option_i64_in-2.ensures,
+      c.option_i64_in-3.ensures,
+      c.option_u64_in-2.ensures,
     )
 
 pub read_head_spec : {M : Type 1} → statement M

@@ -6,12 +6,11 @@ use Rattle.base.proofs.sizes_at.Tie as tie
 
 returns : tie.Need-returns
 returns c =
-    let b = c.before.before in
-    let w = b.before.size-width.ensures.0 in
+    let w = c.size_width-w.ensures.0 in
     record {
-      groups = b.size-at.ensures;
-      lists = rw w at c.before.size-at2.ensures;
-      categories = rw w at c.size-at3.ensures;
+      groups = c.size_at.ensures;
+      lists = rw w at c.size_at-2.ensures;
+      categories = rw w at c.size_at-3.ensures;
     }
 
 pub sizes_at_spec : {M : Type 1} → statement M

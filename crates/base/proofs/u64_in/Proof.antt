@@ -5,7 +5,7 @@ use Rattle.base.proofs.u64_in.Statement.{statement}
 use Rattle.base.proofs.u64_in.Tie as tie
 
 returns : tie.Need-returns
-returns c = rw (c.u64-at.ensures, c.before.place.ensures)
+returns c = rw (c.u64_at.ensures, c.place.ensures)
 
 pub u64_in_spec : {M : Type 1} → statement M
 u64_in_spec = tie.close (tie.spec (λ c κs. search rules) (λ c κs. let l = laid c.before.before.args.f in search rules) returns)

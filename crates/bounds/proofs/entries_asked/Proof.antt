@@ -8,10 +8,10 @@ use Rattle.bounds.specs.Asked.{entry_asked}
 use Rattle.bounds.proofs.entries_asked.Statement.{statement}
 use Rattle.bounds.proofs.entries_asked.Tie as tie
 
-abbrev invariant-loop : tie.invariant-loop
+abbrev invariant-loop : tie.invariant-loop-i
 invariant-loop f s ask floats g n i₀ i = Holding (entry_asked (form_of f) ask floats s) n i (holds_from n 0 (entry_asked (form_of f) ask floats s))
 
-abbrev decreases-loop : tie.decreases-loop
+abbrev decreases-loop : tie.decreases-loop-i
 decreases-loop f s ask floats g n i₀ i = n - i
 
 pub entries_asked_spec : {M : Type 1} → statement M

@@ -7,37 +7,33 @@ use Rattle.bounds.proofs.Asks.{every_whole, every_float, no_range_asked}
 use Rattle.bounds.proofs.every_entry.Statement.{statement}
 use Rattle.bounds.proofs.every_entry.Tie as tie
 
-entries-asked-requires : tie.Need-entries-asked-requires
+entries-asked-requires : tie.Need-entries_asked-requires
 entries-asked-requires c κs =
-    let b = c.before.before.before.before in
-    range_fits (sized (form_of b.args.f) b.args.s.now b.requires c.before.before.sizes-at.ensures) (ap is_range_nature (sym c.before.nature-of.ensures ∙ c.if1.true))
+    range_fits (sized (form_of c.args.f) c.args.s.now c.requires c.sizes_at-sizes.ensures) (ap is_range_nature (sym c.nature_of-nature.ensures ∙ c.if-nature-eq-WHOLE_RANGE.true))
 
-returns : tie.Need-returns
+returns : tie.Need-returns-then-nature-eq-WHOLE_RANGE
 returns c =
-    let z = c.before.before.before in
-    let s = z.before.before.args.s.now in
-    let F = form_of z.before.before.args.f in
-    rw (nature_whole_range F s (sym c.before.before.nature-of.ensures ∙ c.before.if1.true), every_whole F s z.before.before.args.ask, ← z.sizes-at.ensures.lists)
-    c.entries-asked.ensures
+    let s = c.args.s.now in
+    let F = form_of c.args.f in
+    rw (nature_whole_range F s (sym c.nature_of-nature.ensures ∙ c.if-nature-eq-WHOLE_RANGE.true), every_whole F s c.args.ask, ← c.sizes_at-sizes.ensures.lists)
+    c.entries_asked.ensures
 
-entries-asked-requires-2 : tie.Need-entries-asked-requires-2
+entries-asked-requires-2 : tie.Need-entries_asked-requires-then-nature-eq-FLOAT_RANGE
 entries-asked-requires-2 c κs =
-    let b = c.before.before.before.before.before in
-    range_fits (sized (form_of b.args.f) b.args.s.now b.requires c.before.before.before.sizes-at.ensures) (ap is_range_nature (sym c.before.before.nature-of.ensures ∙ c.if2.true))
+    range_fits (sized (form_of c.args.f) c.args.s.now c.requires c.sizes_at-sizes.ensures) (ap is_range_nature (sym c.nature_of-nature.ensures ∙ c.if-nature-eq-FLOAT_RANGE.true))
 
-returns-2 : tie.Need-returns-2
+returns-2 : tie.Need-returns-then-nature-eq-FLOAT_RANGE
 returns-2 c =
-    let z = c.before.before.before.before in
-    let s = z.before.before.args.s.now in
-    let F = form_of z.before.before.args.f in
-    rw (nature_float_range F s (sym c.before.before.before.nature-of.ensures ∙ c.before.if2.true), every_float F s z.before.before.args.ask, ← z.sizes-at.ensures.lists)
-    c.entries-asked2.ensures
+    let s = c.args.s.now in
+    let F = form_of c.args.f in
+    rw (nature_float_range F s (sym c.nature_of-nature.ensures ∙ c.if-nature-eq-FLOAT_RANGE.true), every_float F s c.args.ask, ← c.sizes_at-sizes.ensures.lists)
+    c.entries_asked-then-nature-eq-FLOAT_RANGE.ensures
 
-returns-3 : tie.Need-returns-3
+returns-3 : tie.Need-returns
 returns-3 c =
-    let a = c.before.before.before.before.before.args in
-    let k = c.before.before.nature-of.ensures in
-    sym (no_range_asked (form_of a.f) a.s.now a.ask (λ e. c.before.if1.false (k ∙ e)) (λ e. c.if2.false (k ∙ e)))
+    let a = c.args in
+    let k = c.nature_of-nature.ensures in
+    sym (no_range_asked (form_of a.f) a.s.now a.ask (λ e. c.if-nature-eq-WHOLE_RANGE.false (k ∙ e)) (λ e. c.if-nature-eq-FLOAT_RANGE.false (k ∙ e)))
 
 pub every_entry_spec : {M : Type 1} → statement M
 every_entry_spec =

@@ -4,11 +4,11 @@ use Rattle.base.proofs.Ends.{not_float}
 use Rattle.bounds.proofs.float_under.Statement.{statement}
 use Rattle.bounds.proofs.float_under.Tie as tie
 
-returns : tie.Need-returns
-returns c = rw (not_float c.before.args.b c.match.keys2)
+returns : tie.Need-returns-in_default
+returns c = rw (not_float c.args.b c.in_default.in_default-own.keys2)
 
-returns-2 : tie.Need-returns-2
-returns-2 c = rw c.before.b.given.1
+returns-2 : tie.Need-returns
+returns-2 c = rw c.in-Float.is
 
 pub float_under_spec : {M : Type 1} → statement M
 float_under_spec = tie.close (tie.spec (λ c. search rules) returns returns-2)

@@ -7,7 +7,7 @@ use Rattle.bounds.proofs.is_whole_range.Statement.{statement}
 use Rattle.bounds.proofs.is_whole_range.Tie as tie
 
 returns : tie.Need-returns
-returns c = rw c.nature-of.ensures (sym (whole_range_is (form_of c.before.before.args.f) c.before.before.args.s.now))
+returns c = rw c.nature_of.ensures (sym (whole_range_is (form_of c.args.f) c.args.s.now))
 
 pub is_whole_range_spec : {M : Type 1} → statement M
 is_whole_range_spec = tie.close (tie.spec (λ c κs. search passing) returns)

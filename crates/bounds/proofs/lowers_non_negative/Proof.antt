@@ -6,7 +6,7 @@ use Rattle.bounds.proofs.lowers_non_negative.Tie as tie
 
 returns : tie.Need-returns
 unfolding lowers_non_negative
-returns c = c.every-entry.ensures
+returns c = c.every_entry.ensures
 
 pub lowers_non_negative_spec : {M : Type 1} → statement M
 lowers_non_negative_spec = tie.close (tie.spec (λ c κs. search rules) returns)

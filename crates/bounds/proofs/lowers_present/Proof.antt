@@ -6,7 +6,7 @@ use Rattle.bounds.proofs.lowers_present.Tie as tie
 
 returns : tie.Need-returns
 unfolding lowers_present
-returns c = c.every-entry.ensures
+returns c = c.every_entry.ensures
 
 pub lowers_present_spec : {M : Type 1} → statement M
 lowers_present_spec = tie.close (tie.spec (λ c κs. search rules) returns)

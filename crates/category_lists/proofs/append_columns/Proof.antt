@@ -13,7 +13,7 @@ use Rattle.category_lists.proofs.Gathering.{columns_more}
 use Rattle.category_lists.proofs.append_columns.Statement.{statement}
 use Rattle.category_lists.proofs.append_columns.Tie as tie
 
-abbrev invariant-loop : tie.invariant-loop
+abbrev invariant-loop : tie.invariant-loop-i
 invariant-loop f store k j end t numbers₀ values₀ total₀ i₀ numbers values total i =
     (j ≤ i)
     × (i ≤ end)
@@ -23,40 +23,39 @@ invariant-loop f store k j end t numbers₀ values₀ total₀ i₀ numbers valu
     × ((each : ℕ → Result (List ℤ)) (n : ℕ) (xs : List ℤ) → Stored k store xs → end ≤ n → ((i : ℕ) → j ≤ i → i < end → each i ≡ ok xs)
     → Columns (form_of f) each n j t numbers₀ values₀ → Columns (form_of f) each n i total numbers values)
 
-abbrev decreases-loop : tie.decreases-loop
+abbrev decreases-loop : tie.decreases-loop-i
 decreases-loop f store k j end t numbers₀ values₀ total₀ i₀ numbers values total i = end - i
 
-loop-holds : tie.Need-loop-init invariant-loop decreases-loop
+loop-holds : tie.Need-loop-i-init invariant-loop decreases-loop
 loop-holds c = (search rules, search rules, search rules, refl, refl, λ each n xs s h same start. start)
 
-append-list-requires : tie.Need-append-list-requires invariant-loop decreases-loop
+append-list-requires : tie.Need-append_list-total-requires invariant-loop decreases-loop
 append-list-requires c κs =
-    let p = c.before.before.before.before.before.before.requires in
-    let l = c.before.before.before.loop in (
-      (p.0.0, p.0.1, omega (arith, c.before.before.loop-test.true, p.0.3), l.invariant.2),
+    let p = c.requires in
+    let l = c.loop-i in (
+      (p.0.0, p.0.1, omega (arith, c.loop-i-test.true, p.0.3), l.invariant.2),
       record { numbered = omega (arith, l.invariant.3, p.1.numbered); valued = omega (arith, l.invariant.4, p.1.valued) },
     )
 
-loop-again : tie.Need-loop-preserved invariant-loop decreases-loop
+loop-again : tie.Need-loop-i-preserved invariant-loop decreases-loop
 loop-again c =
-    let call = c.before.before.before.before.append-list in
-    let t = c.before.before.before.before.before.before.before in
-    let l = t.before.loop in (
+    let call = c.append_list-total in
+    let l = c.loop-i in (
       omega (arith, l.invariant.0),
-      omega (arith, t.loop-test.true),
+      omega (arith, c.loop-i-test.true),
       call.ensures.0,
-      call.auto.1.1.1.1.1.0 ∙ l.invariant.3,
-      call.auto.1.1.1.1.1.1.0 ∙ l.invariant.4,
+      call.auto.numbers ∙ l.invariant.3,
+      call.auto.values ∙ l.invariant.4,
       λ each n xs s h same start.
-          columns_more (l.invariant.5 each n xs s h same start) (omega (arith, t.loop-test.true, h))
-          (same l.i l.invariant.0 t.loop-test.true) (call.ensures.1 xs s),
+          columns_more (l.invariant.5 each n xs s h same start) (omega (arith, c.loop-i-test.true, h))
+          (same l.i l.invariant.0 c.loop-i-test.true) (call.ensures.1 xs s),
     )
 
 returns : tie.Need-returns invariant-loop decreases-loop
 returns c = λ each n xs s h same start.
-    let l = c.before.loop in
-    let a = c.before.before.before.before.args in
-    let e : l.i ≡ a.end = omega (arith, c.loop-test.false, l.invariant.1) in
+    let l = c.loop-i in
+    let a = c.args in
+    let e : l.i ≡ a.end = omega (arith, c.loop-i-test.false, l.invariant.1) in
     subst (λ (i : ℕ). Columns (form_of a.f) each n i l.total l.numbers l.values) e (l.invariant.5 each n xs s h same start)
 
 pub append_columns_spec : {M : Type 1} → statement M

@@ -8,24 +8,24 @@ use Rattle.category_lists.proofs.Ruled.{arm, not_pair}
 use Rattle.category_lists.proofs.category.Statement.{statement}
 use Rattle.category_lists.proofs.category.Tie as tie
 
-returns : tie.Need-returns
+returns : tie.Need-returns-in-Add
 unfolding category_rule
-returns c = let s = c.before.before.before.ranges in ap fitting c.checked-add.ensures ∙ arm C.Add s.a s.b c.before.enum_told.given.1
+returns c = let s = c.ranges in ap fitting c.checked_add.ensures ∙ arm C.Add s.a s.b c.in-Add.is
 
-returns-2 : tie.Need-returns-2
+returns-2 : tie.Need-returns-in-Subtract
 unfolding category_rule
-returns-2 c = let s = c.before.before.before.ranges in ap fitting c.checked-sub.ensures ∙ arm C.Subtract s.a s.b c.before.enum-told2.given.1
+returns-2 c = let s = c.ranges in ap fitting c.checked_sub.ensures ∙ arm C.Subtract s.a s.b c.in-Subtract.is
 
-returns-3 : tie.Need-returns-3
+returns-3 : tie.Need-returns-in-Multiply
 unfolding category_rule
-returns-3 c = let s = c.before.before.before.ranges in ap fitting c.checked-mul.ensures ∙ arm C.Multiply s.a s.b c.before.enum-told3.given.1
+returns-3 c = let s = c.ranges in ap fitting c.checked_mul.ensures ∙ arm C.Multiply s.a s.b c.in-Multiply.is
 
-returns-4 : tie.Need-returns-4
+returns-4 : tie.Need-returns-in-Divide
 unfolding category_rule
-returns-4 c = let s = c.before.before.before.ranges in ap fitting c.checked-div.ensures ∙ arm C.Divide s.a s.b c.before.enum-told4.given.1
+returns-4 c = let s = c.ranges in ap fitting c.checked_div.ensures ∙ arm C.Divide s.a s.b c.in-Divide.is
 
-returns-5 : tie.Need-returns-5
-returns-5 c = absurd (not_pair c.before.args.c c.match.keys5 c.before.requires)
+returns-5 : tie.Need-returns-in_default
+returns-5 c = absurd (not_pair c.args.c c.in_default.in_default-own.keys5 c.requires)
 
 pub category_spec : {M : Type 1} → statement M
 category_spec =

@@ -12,37 +12,34 @@ use Rattle.category_lists.proofs.Operands.{listed_long, lists_length, pick_only,
 use Rattle.category_lists.proofs.column_list.Statement.{statement}
 use Rattle.category_lists.proofs.column_list.Tie as tie
 
-returns : tie.Need-returns
+returns : tie.Need-returns-then-sizes-eq1
 returns c =
     let q = c.before.before.before in
-    let z = q.before.before.before.before.before in
-    let a = z.before.before.before.args in
+    let a = c.args in
     let F = form_of a.f in
-    let one = lists_length F a.s.now as_whole ∙ sym z.sizes-at.ensures.lists ∙ q.before.before.before.if1.true in
-    subst (λ (l : List ℤ). Begins (firsts eq_z l) q.list-into.result a.out.now q.list-into.new.1.1.1.0)
+    let one = lists_length F a.s.now as_whole ∙ sym c.sizes_at-sizes.ensures.lists ∙ c.if-sizes-eq1.true in
+    subst (λ (l : List ℤ). Begins (firsts eq_z l) c.list_into.result a.out.now c.list_into.new.out)
     (sym (pick_only (lists F a.s.now as_whole) a.j one))
-    q.list-into.ensures
+    c.list_into.ensures
 
-list-into-requires-2 : tie.Need-list-into-requires-2
+list-into-requires-2 : tie.Need-list_into-requires-2
 list-into-requires-2 c κs =
-    let z = c.before.before.before.before in
-    let p = z.before.before.before.requires in
-    (p.0, p.1 (λ e. c.before.before.if1.false (z.sizes-at.ensures.lists ∙ e)), p.2, p.3)
+    let p = c.requires in
+    (p.0, p.1 (λ e. c.if-sizes-eq1.false (c.sizes_at-sizes.ensures.lists ∙ e)), p.2, p.3)
 
-returns-2 : tie.Need-returns-2
+returns-2 : tie.Need-returns
 returns-2 c =
     let q = c.before.before.before in
-    let z = q.before.before.before.before.before in
-    let a = z.before.before.before.args in
+    let a = c.args in
     let F = form_of a.f in
-    let own = pick_own (lists F a.s.now as_whole) a.j (λ e. q.before.before.before.if1.false (z.sizes-at.ensures.lists ∙ sym (lists_length F a.s.now as_whole) ∙ e)) in
-    subst (λ (l : List ℤ). Begins (firsts eq_z l) q.list-into2.result a.out.now q.list-into2.new.1.1.1.0) (sym own) q.list-into2.ensures
+    let own = pick_own (lists F a.s.now as_whole) a.j (λ e. c.if-sizes-eq1.false (c.sizes_at-sizes.ensures.lists ∙ sym (lists_length F a.s.now as_whole) ∙ e)) in
+    subst (λ (l : List ℤ). Begins (firsts eq_z l) c.list_into-2.result a.out.now c.list_into-2.new.out) (sym own) c.list_into-2.ensures
 
 pub column_list_spec : {M : Type 1} → statement M
 column_list_spec =
     tie.close
     (tie.spec
-    (λ c κs. listed_long c.before.before.requires.0)
+    (λ c κs. listed_long c.requires.0)
     (λ c κs. search rules)
     (λ c. search rules)
     (λ c. search rules)

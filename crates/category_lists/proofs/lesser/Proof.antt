@@ -5,11 +5,11 @@ use Rattle.category_lists.proofs.Columnwise.{lesser_left, lesser_right}
 use Rattle.category_lists.proofs.lesser.Statement.{statement}
 use Rattle.category_lists.proofs.lesser.Tie as tie
 
-returns : tie.Need-returns
-returns c = let a = c.before.args in sym (lesser_left a.a a.b (omega arith))
+returns : tie.Need-returns-then-a-b
+returns c = let a = c.args in sym (lesser_left a.a a.b (omega arith))
 
-returns-2 : tie.Need-returns-2
-returns-2 c = let a = c.before.args in sym (lesser_right a.a a.b (omega arith))
+returns-2 : tie.Need-returns-else-a-b
+returns-2 c = let a = c.args in sym (lesser_right a.a a.b (omega arith))
 
 pub lesser_spec : {M : Type 1} → statement M
 lesser_spec = tie.close (tie.spec returns returns-2)

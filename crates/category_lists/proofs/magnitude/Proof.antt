@@ -23,17 +23,17 @@ down a h =
     let d = abs_down a (omega arith) in
     parts_eq (neg_ℤ a) (pos (nat_abs a)) (omega arith)
 
-returns : tie.Need-returns
+returns : tie.Need-returns-then-a-ge0
 returns c =
-    let f = c.before.ranges.a in
-    let h = sym (ap (le_z (pos 0)) (to_z-of_z f)) ∙ c.if1.true in
-    ap fitting (fits_answer (up c.before.args.a h) f)
+    let f = c.ranges.a in
+    let h = sym (ap (le_z (pos 0)) (to_z-of_z f)) ∙ c.if-a-ge0.true in
+    ap fitting (fits_answer (up c.args.a h) f)
 
-returns-2 : tie.Need-returns-2
+returns-2 : tie.Need-returns
 returns-2 c =
-    let f = c.before.before.ranges.a in
-    let h = sym (ap (le_z (pos 0)) (to_z-of_z f)) ∙ c.before.if1.false in
-    ap fitting (c.checked-neg.ensures ∙ ap checked_of (ap neg_ℤ (to_z-of_z f) ∙ down c.before.before.args.a h))
+    let f = c.ranges.a in
+    let h = sym (ap (le_z (pos 0)) (to_z-of_z f)) ∙ c.if-a-ge0.false in
+    ap fitting (c.checked_neg.ensures ∙ ap checked_of (ap neg_ℤ (to_z-of_z f) ∙ down c.args.a h))
 
 pub magnitude_spec : {M : Type 1} → statement M
 magnitude_spec = tie.close (tie.spec returns (λ c κs. search rules) returns-2)

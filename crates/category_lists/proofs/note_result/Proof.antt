@@ -21,40 +21,37 @@ use Rattle.category_lists.proofs.note_result.Tie as tie
 all_taken : {hints : List ℕ} (store : List ℤ) (k r : ℕ) → length store ≤ k → length store ≤ r → Hinting hints (take k store) → Hinting hints (take r store)
 all_taken {hints} store k r h e w = subst (Hinting hints) (take_all k store h ∙ sym (take_all r store e)) w
 
-returns : tie.Need-returns
+returns : tie.Need-returns-then-store-k
 returns c =
-    let s = c.before.before in
-    (s.requires.0, s.requires.2, λ seen h. stored_over eq_z h s.args.k _ c.if1.true c.if1.true)
+    (c.requires.0, c.requires.2, λ seen h. stored_over eq_z h c.args.k _ c.if-store-k.true c.if-store-k.true)
 
-returns-2 : tie.Need-returns-2
+returns-2 : tie.Need-returns-in_default
 returns-2 c =
     let n = c.before.before.before.before.before in
-    let s = n.before.before.before.before.before in
-    let a = s.args in
+    let a = c.args in
     let store = a.store.now in
-    let room : a.k ≤ length store = n.before.before.before.if1.false in
-    let after = n.note-hinted.new.0 in
+    let room : a.k ≤ length store = c.if-store-k.false in
+    let after = c.note_hinted.new.out in
     let read : to_z w64 (of_z w64 a.v) ≡ a.v = search rules in
-    let lacks = notes_full a.k _ store after c.enum_told.given.1 n.note-hinted.ensures.0 in
+    let lacks = notes_full a.k _ store after c.in_default.is c.note_hinted.ensures.0 in
     let size = ap length lacks.same in
     let above : length store < a.k + 1 = omega (arith, lacks.full) in (
       omega (arith, room),
-      all_taken after a.k (a.k + 1) (omega (arith, size, lacks.full)) (omega (arith, size, above)) (hinting_full a.k after c.enum_told.given.1 n.note-hinted.ensures.1),
+      all_taken after a.k (a.k + 1) (omega (arith, size, lacks.full)) (omega (arith, size, above)) (hinting_full a.k after c.in_default.is c.note_hinted.ensures.1),
       λ seen h. stored_full eq_z h read room (a.k + 1) above lacks.new (omega (arith, lacks.full)) lacks.same,
     )
 
-returns-3 : tie.Need-returns-3
+returns-3 : tie.Need-returns
 returns-3 c =
     let n = c.before.before.before.before.before.before in
-    let s = n.before.before.before.before.before in
-    let a = s.args in
+    let a = c.args in
     let store = a.store.now in
-    let room : a.k ≤ length store = n.before.before.before.if1.false in
-    let after = n.note-hinted.new.0 in
+    let room : a.k ≤ length store = c.if-store-k.false in
+    let after = c.note_hinted.new.out in
     let read : to_z w64 (of_z w64 a.v) ≡ a.v = search rules in
-    let begins = notes_at a.k _ store after c.before.m.given.1 n.note-hinted.ensures.0 in (
-      omega (arith, begins_room begins, n.note-hinted.auto.0),
-      hinting_at a.k after c.before.m.given.1 n.note-hinted.ensures.1,
+    let begins = notes_at a.k _ store after c.in-At.is c.note_hinted.ensures.0 in (
+      omega (arith, begins_room begins, c.note_hinted.auto.out),
+      hinting_at a.k after c.in-At.is c.note_hinted.ensures.1,
       λ seen h. stored_noted eq_z h read room begins.start (begins_room begins),
     )
 

@@ -17,35 +17,33 @@ use Rattle.category_lists.proofs.Columnwise.{columns_within_lem, mapped_is}
 use Rattle.category_maps.proofs.lists_alone.Statement.{statement}
 use Rattle.category_maps.proofs.lists_alone.Tie as tie
 
-maps-into-requires : tie.Need-maps-into-requires
+maps-into-requires : tie.Need-maps_into-requires
 maps-into-requires c κs =
     let n = c.before.before.before.before.before in
-    let s = n.before.before.before.before.before.before in
-    let p = s.requires.0 in
-    let F = form_of s.args.f in
-    let columns = s.args.columns in
-    let l = list_count F s.args.left.now in
-    let e : n.spread.result ≡ spread_of columns l = n.spread.ensures ∙ ap (spread_of columns) n.before.sizes-at.ensures.lists in
-    let w = columns_within_lem columns l n.spread.result (omega (arith, e)) (omega (arith, p.2, (laid s.args.f).columns_listed)) (listed_within p.0) in
-    ((p.0, w.0, p.3), (w.1, s.requires.1))
+    let p = c.requires.0 in
+    let F = form_of c.args.f in
+    let columns = c.args.columns in
+    let l = list_count F c.args.left.now in
+    let e : c.spread-n.result ≡ spread_of columns l = c.spread-n.ensures ∙ ap (spread_of columns) c.sizes_at-sizes.ensures.lists in
+    let w = columns_within_lem columns l c.spread-n.result (omega (arith, e)) (omega (arith, p.2, (laid c.args.f).columns_listed)) (listed_within p.0) in
+    ((p.0, w.0, p.3), (w.1, c.requires.1))
 
 returns : tie.Need-returns
 returns c =
     let d = c.before.before.before.before.before.before.before.before in
-    let n = d.before.before.before.before.before.before in
-    let a = n.before.before.before.before.before.before.args in
+    let a = c.args in
     let F = form_of a.f in
     let left = a.left.now in
     let ls = lists F left as_whole in
-    let size = n.spread.ensures ∙ ap (spread_of a.columns) (n.before.sizes-at.ensures.lists ∙ sym (lists_length F left as_whole)) in
-    let e = mapped_is eq_z (rule_of a.c) a.columns ls ls n.spread.result size in
-    (d.maps-into.ensures.0 ∙ ap (λ (g : Result (List (List ℤ))). in_writing F (limited F.category_limit g)) e, d.maps-into.ensures.1)
+    let size = c.spread-n.ensures ∙ ap (spread_of a.columns) (c.sizes_at-sizes.ensures.lists ∙ sym (lists_length F left as_whole)) in
+    let e = mapped_is eq_z (rule_of a.c) a.columns ls ls c.spread-n.result size in
+    (c.maps_into.ensures.0 ∙ ap (λ (g : Result (List (List ℤ))). in_writing F (limited F.category_limit g)) e, c.maps_into.ensures.1)
 
 pub lists_alone_spec : {M : Type 1} → statement M
 lists_alone_spec =
     tie.close
     (tie.spec
-    (λ c κs. listed_long c.before.before.before.before.requires.0.0)
+    (λ c κs. listed_long c.requires.0.0)
     (λ c κs. search rules)
     maps-into-requires
     (λ c. search rules)

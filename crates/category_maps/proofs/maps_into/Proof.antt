@@ -33,7 +33,7 @@ use Rattle.category_maps.proofs.maps_into.Tie as tie
 abbrev rest_of : Component → List ℤ → ℕ → List ℤ → Result (List ℤ)
 rest_of c us i seen = noted_from eq_z (λ a. rule_of c a a) seen (drop i us)
 
-abbrev invariant-loop : tie.invariant-loop
+abbrev invariant-loop : tie.invariant-loop-i
 invariant-loop f c n left us store₀ hints₀ numbers values code₀ t j l k₀ i₀ store hints code k i =
     (i ≤ l)
     × (length store ≡ length store₀)
@@ -42,7 +42,7 @@ invariant-loop f c n left us store₀ hints₀ numbers values code₀ t j l k₀
     × Hinting hints (take k store)
     × Making k store (rest_of c (take l us) i) (column_in true c (form_of f) left left j)
 
-abbrev decreases-loop : tie.decreases-loop
+abbrev decreases-loop : tie.decreases-loop-i
 decreases-loop f c n left us store₀ hints₀ numbers values code₀ t j l k₀ i₀ store hints code k i = l - i
 
 abbrev invariant-product : tie.invariant-product
@@ -57,153 +57,144 @@ decreases-product f c n left us₀ store₀ hints₀ numbers₀ values₀ code�
 
 product-holds : tie.Need-product-init invariant-loop decreases-loop invariant-product decreases-product
 product-holds c =
-    let a = c.before.before.before.before.args in
+    let a = c.args in
     let left = a.left.now in
     (going_start (form_of a.f) (column_in true a.c (form_of a.f) left left) a.n a.numbers.now a.values.now, refl, refl, refl)
 
-column-list-requires : tie.Need-column-list-requires invariant-loop decreases-loop invariant-product decreases-product
+column-list-requires : tie.Need-column_list-l-requires invariant-loop decreases-loop invariant-product decreases-product
 column-list-requires c κs =
-    let t = c.before.before in
-    let p = t.before.before.before.before.before.before.requires in
-    (p.0.0, λ h. omega (arith, p.0.1 h, t.product-test.true), omega arith, omega arith)
+    let p = c.requires in
+    (p.0.0, λ h. omega (arith, p.0.1 h, c.product-test.true), omega arith, omega arith)
 
-clear-hints-requires : tie.Need-clear-hints-requires invariant-loop decreases-loop invariant-product decreases-product
+clear-hints-requires : tie.Need-clear_hints-requires invariant-loop decreases-loop invariant-product decreases-product
 clear-hints-requires c κs =
     let q = c.before.before.before.before in
-    let o = q.before.before.before.before in
-    q.column-list.auto.1.1.1.1.0 ∙ o.product.invariant.3 ∙ o.before.before.before.before.before.requires.1.1.0.hinted
+    c.column_list-l.auto.hints ∙ c.product.invariant.3 ∙ c.requires.1.1.0.hinted
 
 -- ---- the values of column j
 
-loop-holds : tie.Need-loop-init invariant-loop decreases-loop invariant-product decreases-product
+loop-holds : tie.Need-loop-i-init invariant-loop decreases-loop invariant-product decreases-product
 unfolding column_of
 loop-holds c =
     let q = c.before.before.before.before.before.before.before in
-    let o = q.before.before.before.before in
-    let rule = rule_of o.before.before.before.before.before.args.c in
-    let us = take q.column-list.result q.column-list.new.1.1.1.0 in
-    let column = sym (ap (image eq_z rule) q.column-list.ensures.start) ∙ image_is eq_z rule us in
-    (search rules, refl, o.product.invariant.0.fine, search rules, hinting_none c.before.before.clear-hints.ensures, making_start o.product.store (rest_of o.before.before.before.before.before.args.c us 0) column)
+    let rule = rule_of c.args.c in
+    let us = take c.column_list-l.result c.column_list-l.new.out in
+    let column = sym (ap (image eq_z rule) c.column_list-l.ensures.start) ∙ image_is eq_z rule us in
+    (search rules, refl, c.product.invariant.0.fine, search rules, hinting_none c.clear_hints.ensures, making_start c.product.store (rest_of c.args.c us 0) column)
 
 -- a value that is read stands in its store
-left_within : (c : tie.In-loop invariant-loop decreases-loop invariant-product decreases-product) → c.before.loop.i < length c.before.before.before.before.before.before.before.before.before.column-list.new.1.1.1.0
-left_within c = omega (arith, c.loop-test.true, begins_room c.before.before.before.before.before.before.before.before.before.column-list.ensures)
+left_within : (c : tie.In-loop-i invariant-loop decreases-loop invariant-product decreases-product) → c.loop-i.i < length c.column_list-l.new.out
+left_within c = omega (arith, c.loop-i-test.true, begins_room c.column_list-l.ensures)
 
-mul-a : tie.Need-overflow-mul-a invariant-loop decreases-loop invariant-product decreases-product
+mul-a : tie.Need-offset_bounds-us-i invariant-loop decreases-loop invariant-product decreases-product
 mul-a c = let w = left_within c in search rules
 
-slice-copy-out-a : tie.Need-slice-copy-out-a invariant-loop decreases-loop invariant-product decreases-product
+slice-copy-out-a : tie.Need-slice_copy_out-a invariant-loop decreases-loop invariant-product decreases-product
 slice-copy-out-a c = let w = left_within c in search rules
 
 -- the store is as long as a sheet has room for categories
-results_size : (c : tie.At-loop invariant-loop decreases-loop invariant-product decreases-product) →
+results_size : (c : tie.At-loop-i invariant-loop decreases-loop invariant-product decreases-product) →
     let o = c.before.before.before.before.before.before.before.before.before.before.before.before in
-    length c.loop.store ≡ (form_of o.before.before.before.before.before.args.f).category_limit
+    length c.loop-i.store ≡ (form_of c.args.f).category_limit
 results_size c =
     let o = c.before.before.before.before.before.before.before.before.before.before.before.before in
-    c.loop.invariant.1 ∙ o.product.invariant.2 ∙ o.before.before.before.before.before.requires.1.1.0.results
+    c.loop-i.invariant.1 ∙ c.product.invariant.2 ∙ c.requires.1.1.0.results
 
-note-result-requires : tie.Need-note-result-requires invariant-loop decreases-loop invariant-product decreases-product
+note-result-requires : tie.Need-note_result-k-requires invariant-loop decreases-loop invariant-product decreases-product
 note-result-requires c κs =
-    let l = c.before.before.before.before.before.before.before.before in
-    let few : length l.loop.store < 2 ^ 32 = omega (arith, results_size l, (small l.before.before.before.before.before.before.before.before.before.before.before.before.before.before.before.before.before.args.f).categories) in
-    (l.loop.invariant.3, few, l.loop.invariant.4)
+    let few : length c.loop-i.store < 2 ^ 32 = omega (arith, results_size c.before.before.before.before.before.before.before.before, (small c.args.f).categories) in
+    (c.loop-i.invariant.3, few, c.loop-i.invariant.4)
 
-loop-again : tie.Need-loop-preserved invariant-loop decreases-loop invariant-product decreases-product
+loop-again : tie.Need-loop-i-preserved invariant-loop decreases-loop invariant-product decreases-product
 loop-again c =
-    let noting = c.before.before.before.note-result in
-    let v = c.before.before.before.before.before.before.before.v.given in
+    let noting = c.note_result-k in
     let g = c.before.before.before.before.before.before.before.before.before in
     let t = g.before.before in
-    let l = t.before.loop in
-    let q = t.before.before.before.before.before.before.before.before.before in
-    let component = q.before.before.before.before.before.before.before.before.before.args.c in
+    let l = c.loop-i in
+    let component = c.args.c in
     let rule : ℤ → Result ℤ = λ z. rule_of component z z in
-    let all = q.column-list.new.1.1.1.0 in
-    let us = take q.column-list.result all in
+    let all = c.column_list-l.new.out in
+    let us = take c.column_list-l.result all in
     let x = to_z w64 (of_z w64 (get_or all l.i (pos 0))) in
     let read : x ≡ get_or all l.i (pos 0) = search rules in
-    let got = v.0.0 in
-    let back : to_z w64 (of_z w64 got) ≡ got = to_z-of_z (record { sfits = c.before.before.before.before.before.before.known-told.given.0.1 }) in
-    let e = answered rule all q.column-list.result l.i g.mapping.result t.loop-test.true read g.mapping.ensures (ap fitting v.1) in
-    let next : l.i < length us = omega (arith, begun_length q.column-list.ensures, t.loop-test.true) in (
-      omega (arith, t.loop-test.true),
-      noting.auto.0 ∙ l.invariant.1,
+    let got = c.in-Fits.v in
+    let back : to_z w64 (of_z w64 got) ≡ got = to_z-of_z (record { sfits = c.in-Fits.known_told-1-own.given.0.1 }) in
+    let e = answered rule all c.column_list-l.result l.i c.mapping.result c.loop-i-test.true read c.mapping.ensures (ap fitting c.in-Fits.is) in
+    let next : l.i < length us = omega (arith, begun_length c.column_list-l.ensures, c.loop-i-test.true) in (
+      omega (arith, c.loop-i-test.true),
+      noting.auto.store ∙ l.invariant.1,
       l.invariant.2,
-      omega (arith, noting.ensures.0, noting.auto.0),
+      omega (arith, noting.ensures.0, noting.auto.store),
       noting.ensures.1,
       making_more l.invariant.5 (rest_of component us (l.i + 1)) back (λ seen. notes_ok eq_z rule us l.i seen (pos 0) next e) noting.ensures.2,
     )
 
 -- ---- the column is written
 
-column-end-requires : tie.Need-column-end-requires invariant-loop decreases-loop invariant-product decreases-product
+column-end-requires : tie.Need-column_end-end-requires invariant-loop decreases-loop invariant-product decreases-product
 column-end-requires c κs =
-    let t = c.before.before.before.before.before.before.before.before.before.before.before.before in
-    let p = t.before.before.before.before.before.before.requires in
-    (p.0.0, p.0.0, t.product-test.true)
+    let p = c.requires in
+    (p.0.0, p.0.0, c.product-test.true)
 
-append-columns-requires : tie.Need-append-columns-requires invariant-loop decreases-loop invariant-product decreases-product
+append-columns-requires : tie.Need-append_columns-t-requires invariant-loop decreases-loop invariant-product decreases-product
 append-columns-requires c κs =
     let e = c.before.before.before in
     let h = e.before.before in
-    let o = h.before.before.before.before.before.before.before.before.before.before.before.before in
-    let p = o.before.before.before.before.before.requires.1 in (
+    let p = c.requires.1 in (
       (
-        omega (arith, h.loop.invariant.3, results_size h),
-        results_size h,
-        omega (arith, e.column-end.ensures.0),
-        omega (arith, e.column-end.ensures.1, p.0),
-        o.product.invariant.0.columns.tally.bound,
+        omega (arith, c.loop-i.invariant.3, results_size c.before.before.before.before),
+        results_size c.before.before.before.before,
+        omega (arith, c.column_end-end.ensures.0),
+        omega (arith, c.column_end-end.ensures.1, p.0),
+        c.product.invariant.0.columns.tally.bound,
       ),
-      arrays_kept p.1.1 o.product.invariant.0.first o.product.invariant.0.second,
+      arrays_kept p.1.1 c.product.invariant.0.first c.product.invariant.0.second,
     )
 
 product-again : tie.Need-product-preserved invariant-loop decreases-loop invariant-product decreases-product
 product-again c =
-    let add = c.before.before.before.before.append-columns in
+    let add = c.append_columns-t in
     let e = c.before.before.before.before.before.before.before.before in
     let h = e.before.before in
-    let l = h.loop in
+    let l = c.loop-i in
     let q = h.before.before.before.before.before.before.before.before in
     let o = q.before.before.before.before in
-    let s = o.before.before.before.before.before in
-    let a = s.args in
+    let a = c.args in
     let left = a.left.now in
-    let us = take q.column-list.result q.column-list.new.1.1.1.0 in
-    let stop : length us ≤ l.i = omega (arith, begun_length q.column-list.ensures, e.before.loop-test.false) in
+    let us = take c.column_list-l.result c.column_list-l.new.out in
+    let stop : length us ≤ l.i = omega (arith, begun_length c.column_list-l.ensures, c.loop-i-test.false) in
     let made = making_done l.invariant.5 (λ seen. notes_end eq_z (λ z. rule_of a.c z z) us l.i seen stop) in
-    let alike = column_alike true a.c (form_of a.f) left left o.product.j e.column-end.result e.column-end.ensures.2 made.1 in (
-      going_more o.product.invariant.0 l.invariant.2 e.column-end.ensures.1 made.2 alike (add.ensures _ a.n _) add.auto.1.1.1.1.1.1.0 add.auto.1.1.1.1.1.1.1.0,
-      q.column-list.auto.1.1.1.0 ∙ o.product.invariant.1,
-      l.invariant.1 ∙ o.product.invariant.2,
-      l.invariant.4.size ∙ sym s.requires.1.1.0.hinted,
+    let alike = column_alike true a.c (form_of a.f) left left c.product.j c.column_end-end.result c.column_end-end.ensures.2 made.1 in (
+      going_more c.product.invariant.0 l.invariant.2 c.column_end-end.ensures.1 made.2 alike (add.ensures _ a.n _) add.auto.numbers add.auto.values,
+      c.column_list-l.auto.out ∙ c.product.invariant.1,
+      l.invariant.1 ∙ c.product.invariant.2,
+      l.invariant.4.size ∙ sym c.requires.1.1.0.hinted,
     )
 
 -- ---- how the loops are left
 
 -- what was lent is as long as it was
 sizes : (c : tie.Left-product invariant-loop decreases-loop invariant-product decreases-product) →
-    let a = c.before.before.before.before.before.before.args in
+    let a = c.args in
     (length c.product-test.us ≡ length a.us.now) × (length c.product-test.store ≡ length a.store.now) × (length c.product-test.hints ≡ length a.hints.now)
 sizes c =
-    let o = c.before.product in
+    let o = c.product in
     ⊎_elim
     (λ w. (ap length w.1 ∙ o.invariant.1, ap length w.2 ∙ o.invariant.2, ap length w.3 ∙ o.invariant.3))
     (λ w. (
       ap length w.17 ∙ w.3.kept.1.1.1.0 ∙ o.invariant.1,
       ap length w.18 ∙ w.11.inv.1 ∙ o.invariant.2,
-      ap length w.19 ∙ w.11.inv.4.size ∙ sym c.before.before.before.before.before.before.requires.1.1.0.hinted,
+      ap length w.19 ∙ w.11.inv.4.size ∙ sym c.requires.1.1.0.hinted,
     ))
     c.product-test.branch
 
 ended : (c : tie.Left-product invariant-loop decreases-loop invariant-product decreases-product) →
-    let a = c.before.before.before.before.before.before.args in
-    let o = c.before.product in
+    let a = c.args in
+    let o = c.product in
     Ended (form_of a.f) (column_in true a.c (form_of a.f) a.left.now a.left.now) a.n o.numbers o.values c.product-test.code o.t
 ended c =
-    let o = c.before.product in
-    let component = c.before.before.before.before.before.before.args.c in
+    let o = c.product in
+    let component = c.args.c in
     let rule : ℤ → Result ℤ = λ z. rule_of component z z in
     ⊎_elim
     (λ w. going_done o.invariant.0 w.4 w.0.left)
@@ -219,14 +210,14 @@ ended c =
     going_failed o.invariant.0 w.20 w.0.taken (making_refused l.inv.5 (λ seen. notes_bad eq_z rule us l.i seen (pos 0) next e)))
     c.product-test.branch
 
-returns : tie.Need-returns invariant-loop decreases-loop invariant-product decreases-product
-returns c = (ended_refused (ended c.before) c.if1.true, tt)
+returns : tie.Need-returns-then-code-ne0 invariant-loop decreases-loop invariant-product decreases-product
+returns c = (ended_refused (ended c.before) c.if-code-ne0.true, tt)
 
 gather-requires : tie.Need-gather-requires invariant-loop decreases-loop invariant-product decreases-product
-gather-requires c κs = (c.before.before.before.before.before.before.before.requires.1.0, c.before.before.product.invariant.0.columns.tally.bound)
+gather-requires c κs = (c.requires.1.0, c.product.invariant.0.columns.tally.bound)
 
-returns-2 : tie.Need-returns-2 invariant-loop decreases-loop invariant-product decreases-product
-returns-2 c = (ended_gathered (ended c.before.before) c.before.if1.false c.gather.ensures, going_within c.before.before.before.product.invariant.0 whole_lists_nature c.before.before.before.before.before.before.before.before.requires.1.0 c.before.before.before.before.before.before.before.before.requires.1.1.1 c.gather.ensures)
+returns-2 : tie.Need-returns invariant-loop decreases-loop invariant-product decreases-product
+returns-2 c = (ended_gathered (ended c.before.before) c.if-code-ne0.false c.gather.ensures, going_within c.product.invariant.0 whole_lists_nature c.requires.1.0 c.requires.1.1.1 c.gather.ensures)
 
 pub maps_into_spec : {M : Type 1} → statement M
 maps_into_spec =

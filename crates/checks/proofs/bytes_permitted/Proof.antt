@@ -7,16 +7,15 @@ returns : tie.Need-returns
 returns c =
     let c₁ = c.before in
     let d = c₁.before.before.before in
-    let e = d.before.before in
     rw (
-      e.before.nature-of.ensures,
-      e.byte-in.ensures,
-      d.before.byte-in2.ensures,
-      d.byte-in3.ensures,
-      c₁.before.before.byte-in4.ensures,
-      c₁.before.byte-in5.ensures,
-      c₁.tail-permitted.ensures,
-      c.gap-permitted.ensures,
+      c.nature_of.ensures,
+      c.byte_in.ensures,
+      c.byte_in-2.ensures,
+      c.byte_in-3.ensures,
+      c.byte_in-4.ensures,
+      c.byte_in-5.ensures,
+      c.tail_permitted.ensures,
+      c.gap_permitted.ensures,
     )
 
 pub bytes_permitted_spec : {M : Type 1} → statement M

@@ -7,60 +7,56 @@ use Rattle.checks.proofs.Heads.{fields_parts}
 use Rattle.checks.proofs.check_sheet.Statement.{statement}
 use Rattle.checks.proofs.check_sheet.Tie as tie
 
-returns : tie.Need-returns
+returns : tie.Need-returns-then-sizes_fail
 unfolding read checked
-returns c = rw (sym c.before.sizes-fail.ensures ∙ c.if1.true)
+returns c = rw (sym c.sizes_fail.ensures ∙ c.if-sizes_fail.true)
 
-head-fails-requires : tie.Need-head-fails-requires
-head-fails-requires c κs = sym c.before.sizes-fail.ensures ∙ c.if1.false
+head-fails-requires : tie.Need-head_fails-requires
+head-fails-requires c κs = sym c.sizes_fail.ensures ∙ c.if-sizes_fail.false
 
-returns-2 : tie.Need-returns-2
+returns-2 : tie.Need-returns-then-head_fails
 unfolding read checked
 returns-2 c =
-    let b = c.before.before in
-    rw (sym b.before.sizes-fail.ensures ∙ b.if1.false, fields_parts, sym c.before.head-fails.ensures ∙ c.if2.true)
+    rw (sym c.sizes_fail.ensures ∙ c.if-sizes_fail.false, fields_parts, sym c.head_fails.ensures ∙ c.if-head_fails.true)
 
-nature-faults-requires : tie.Need-nature-faults-requires
-nature-faults-requires c κs = let b = c.before.before in sym b.before.sizes-fail.ensures ∙ b.if1.false
+nature-faults-requires : tie.Need-nature_faults-nature-requires
+nature-faults-requires c κs = sym c.sizes_fail.ensures ∙ c.if-sizes_fail.false
 
-returns-3 : tie.Need-returns-3
+returns-3 : tie.Need-returns-then-nature
 unfolding read checked
 returns-3 c =
     let h = c.before.before in
-    let b = h.before.before in
     rw (
-      sym b.before.sizes-fail.ensures ∙ b.if1.false,
+      sym c.sizes_fail.ensures ∙ c.if-sizes_fail.false,
       fields_parts,
-      sym h.before.head-fails.ensures ∙ h.if2.false,
-      sym c.before.nature-faults.ensures.fields ∙ c.if3.true,
+      sym c.head_fails.ensures ∙ c.if-head_fails.false,
+      sym c.nature_faults-nature.ensures.fields ∙ c.if-nature.true,
     )
 
-returns-4 : tie.Need-returns-4
+returns-4 : tie.Need-returns-then-nature-2
 unfolding read checked
 returns-4 c =
     let n = c.before in
     let h = n.before.before in
-    let b = h.before.before in
     rw (
-      sym b.before.sizes-fail.ensures ∙ b.if1.false,
+      sym c.sizes_fail.ensures ∙ c.if-sizes_fail.false,
       fields_parts,
-      sym h.before.head-fails.ensures ∙ h.if2.false,
-      sym n.before.nature-faults.ensures.fields ∙ n.if3.false,
-      sym n.before.nature-faults.ensures.bounds ∙ c.if4.true,
+      sym c.head_fails.ensures ∙ c.if-head_fails.false,
+      sym c.nature_faults-nature.ensures.fields ∙ c.if-nature.false,
+      sym c.nature_faults-nature.ensures.bounds ∙ c.if-nature-2.true,
     )
 
-returns-5 : tie.Need-returns-5
+returns-5 : tie.Need-returns
 unfolding read checked
 returns-5 c =
     let n = c.before in
     let h = n.before.before in
-    let b = h.before.before in
     rw (
-      sym b.before.sizes-fail.ensures ∙ b.if1.false,
+      sym c.sizes_fail.ensures ∙ c.if-sizes_fail.false,
       fields_parts,
-      sym h.before.head-fails.ensures ∙ h.if2.false,
-      sym n.before.nature-faults.ensures.fields ∙ n.if3.false,
-      sym n.before.nature-faults.ensures.bounds ∙ c.if4.false,
+      sym c.head_fails.ensures ∙ c.if-head_fails.false,
+      sym c.nature_faults-nature.ensures.fields ∙ c.if-nature.false,
+      sym c.nature_faults-nature.ensures.bounds ∙ c.if-nature-2.false,
     )
 
 pub check_sheet_spec : {M : Type 1} → statement M

@@ -8,17 +8,17 @@ use Rattle.checks.proofs.Zeros.{zeros}
 use Rattle.checks.proofs.gap_permitted.Statement.{statement}
 use Rattle.checks.proofs.gap_permitted.Tie as tie
 
-u16-at-requires : tie.Need-u16-at-requires
+u16-at-requires : tie.Need-u16_at-requires
 u16-at-requires c κs =
-    let w = ap (λ (f : Form). (form_of f).arrays_at) c.enum-told2.given.1 in
+    let w = ap (λ (f : Form). (form_of f).arrays_at) c.in-Wide.is in
     search rules
 
-returns : tie.Need-returns
+returns : tie.Need-returns-in-Narrow
 unfolding holds_from
-returns c = rw c.enum_told.given.1
+returns c = rw c.in-Narrow.is
 
-returns-2 : tie.Need-returns-2
-returns-2 c = rw (c.before.enum-told2.given.1, c.u16-at.ensures) (zeros c.before.before.before.before.args.s.now 2 (place wide fields_end))
+returns-2 : tie.Need-returns-in-Wide
+returns-2 c = rw (c.in-Wide.is, c.u16_at.ensures) (zeros c.args.s.now 2 (place wide fields_end))
 
 pub gap_permitted_spec : {M : Type 1} → statement M
 gap_permitted_spec = tie.close (tie.spec (λ c. search rules) (λ c. search rules) u16-at-requires returns returns-2)

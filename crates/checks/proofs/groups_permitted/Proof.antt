@@ -7,10 +7,10 @@ use Rattle.base.proofs.Holding.{Holding, held}
 use Rattle.checks.proofs.groups_permitted.Statement.{statement}
 use Rattle.checks.proofs.groups_permitted.Tie as tie
 
-abbrev invariant-loop : tie.invariant-loop
+abbrev invariant-loop : tie.invariant-loop-i
 invariant-loop f s g i₀ i = Holding (key_permitted (form_of f) s) g i (groups_permitted (form_of f) s)
 
-abbrev decreases-loop : tie.decreases-loop
+abbrev decreases-loop : tie.decreases-loop-i
 decreases-loop f s g i₀ i = g - i
 
 pub groups_permitted_spec : {M : Type 1} → statement M

@@ -6,8 +6,7 @@ use Rattle.checks.proofs.head_fails.Tie as tie
 
 returns : tie.Need-returns
 returns c =
-    let v = c.before in
-    rw (v.before.bytes-permitted.ensures, v.values-permitted.ensures, c.groups-permitted.ensures)
+    rw (c.bytes_permitted.ensures, c.values_permitted.ensures, c.groups_permitted.ensures)
 
 pub head_fails_spec : {M : Type 1} → statement M
 head_fails_spec = tie.close (tie.spec (λ c κs. search passing) (λ c κs. search passing) (λ c κs. search passing) (λ c κs. search passing) returns)

@@ -5,8 +5,7 @@ use Rattle.checks.proofs.key_permitted.Tie as tie
 
 returns : tie.Need-returns
 returns c =
-    let k = c.before.before in
-    rw (c.u64-at.ensures, c.before.byte_at.ensures, k.key-at.ensures, k.before.before.requires.0.groups)
+    rw (c.u64_at.ensures, c.byte_at-kind.ensures, c.key_at-at.ensures, c.requires.0.groups)
 
 pub key_permitted_spec : {M : Type 1} → statement M
 key_permitted_spec = tie.close (tie.spec (λ c κs. search rules) (λ c κs. search rules) (λ c. search rules) (λ c κs. search rules) returns)

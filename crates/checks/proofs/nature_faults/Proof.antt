@@ -19,38 +19,36 @@ use Rattle.checks.proofs.nature_faults.Tie as tie
 no_text : (k : ℕ) → is_range_nature k ≡ true → eqb k text_lists_nature ≡ false
 no_text k e = ne_eqb k text_lists_nature (λ h. subst T (sym e ∙ ap is_range_nature h) tt)
 
-returns : tie.Need-returns
+returns : tie.Need-returns-then-nature-eq-ABSENT_NATURE
 unfolding nature_permitted
 returns c =
-    let k = c.before.nature-of in
-    let z = c.before.before.sizes-at.ensures in
-    let a = c.before.before.before.before.args in
-    let none = sym k.ensures ∙ c.if1.true in
+    let k = c.nature_of-nature in
+    let z = c.sizes_at-sizes.ensures in
+    let a = c.args in
+    let none = sym k.ensures ∙ c.if-nature-eq-ABSENT_NATURE.true in
     record {
       fields = rw (none, z.lists, z.categories, and-true, not_both);
       bounds = sym (no_range_passes (form_of a.f) a.s.now (ap is_range_nature none));
     }
 
-entry-faults-requires : tie.Need-entry-faults-requires
+entry-faults-requires : tie.Need-entry_faults-entries-requires
 entry-faults-requires c κs =
     let k = c.before.before.before in
-    let b = k.before.before.before in
-    range_fits (sized (form_of b.args.f) b.args.s.now b.requires k.before.sizes-at.ensures)
-    (rw (← k.nature-of.ensures) (sym c.before.is-range.ensures ∙ c.if2.true))
+    range_fits (sized (form_of c.args.f) c.args.s.now c.requires c.sizes_at-sizes.ensures)
+    (rw (← c.nature_of-nature.ensures) (sym c.is_range.ensures ∙ c.if-is_range.true))
 
-returns-2 : tie.Need-returns-2
+returns-2 : tie.Need-returns-then-is_range
 unfolding nature_permitted range_permitted
 returns-2 c =
-    let e = c.before.entry-faults.ensures in
-    let r = c.before.before.before in
-    let k = r.before.before.nature-of in
-    let z = r.before.before.before.sizes-at.ensures in
-    let a = r.before.before.before.before.before.args in
+    let e = c.entry_faults-entries.ensures in
+    let k = c.nature_of-nature in
+    let z = c.sizes_at-sizes.ensures in
+    let a = c.args in
     let F = form_of a.f in
     let s = a.s.now in
-    let range = sym r.is-range.ensures ∙ c.before.before.if2.true in
+    let range = sym c.is_range.ensures ∙ c.if-is_range.true in
     record {
-      fields = rw (← k.ensures, ne_eqb k.result absent_nature r.before.if1.false, range, no_text k.result range, e.fields, z.lists, z.categories, and-true, not_both);
+      fields = rw (← k.ensures, ne_eqb k.result absent_nature c.if-nature-eq-ABSENT_NATURE.false, range, no_text k.result range, e.fields, z.lists, z.categories, and-true, not_both);
       bounds =
           e.bounds
           ∙ ap₂ (λ (n k : ℕ). not (holds_from n 0 (entry_holds F (eqb k float_range_nature) s))) z.lists k.ensures
@@ -58,38 +56,35 @@ returns-2 c =
     }
 
 -- the arrays of categories
-module _ (c : tie.Else2) where
-  fits : let a = c.before.before.before.before.before.before.args in let z = c.before.before.before.before.sizes-at.result in ListsFit (form_of a.f) a.s.now z.groups z.lists z.categories
+module _ (c : tie.Else-is_range) where
+  fits : let a = c.args in let z = c.sizes_at-sizes.result in ListsFit (form_of a.f) a.s.now z.groups z.lists z.categories
   fits =
       let k = c.before.before.before in
-      let b = k.before.before.before in
-      lists_fit (sized (form_of b.args.f) b.args.s.now b.requires k.before.sizes-at.ensures)
-      (rw (← k.nature-of.ensures) (sym c.before.is-range.ensures ∙ c.if2.false))
+      lists_fit (sized (form_of c.args.f) c.args.s.now c.requires c.sizes_at-sizes.ensures)
+      (rw (← c.nature_of-nature.ensures) (sym c.is_range.ensures ∙ c.if-is_range.false))
 
-returns-3 : tie.Need-returns-3
+returns-3 : tie.Need-returns-then-nature-eq-TEXT_LISTS
 unfolding nature_permitted
 returns-3 c =
     let t = c.before.before in
-    let r = t.before.before in
-    let k = r.before.before.nature-of in
-    let z = r.before.before.before.sizes-at.ensures in
-    let a = r.before.before.before.before.before.args in
-    let other = sym r.is-range.ensures ∙ t.before.if2.false in
+    let k = c.nature_of-nature in
+    let z = c.sizes_at-sizes.ensures in
+    let a = c.args in
+    let other = sym c.is_range.ensures ∙ c.if-is_range.false in
     record {
-      fields = rw (← k.ensures, ne_eqb k.result absent_nature r.before.if1.false, other, eq-eqb k.result text_lists_nature t.if3.true, c.before.lists-permitted.ensures, c.area-permitted.ensures, z.categories);
+      fields = rw (← k.ensures, ne_eqb k.result absent_nature c.if-nature-eq-ABSENT_NATURE.false, other, eq-eqb k.result text_lists_nature c.if-nature-eq-TEXT_LISTS.true, c.lists_permitted.ensures, c.area_permitted.ensures, z.categories);
       bounds = sym (no_range_passes (form_of a.f) a.s.now (ap is_range_nature (sym k.ensures) ∙ other));
     }
 
-returns-4 : tie.Need-returns-4
+returns-4 : tie.Need-returns
 unfolding nature_permitted
 returns-4 c =
     let t = c.before in
-    let r = t.before.before in
-    let k = r.before.before.nature-of in
-    let a = r.before.before.before.before.before.args in
-    let other = sym r.is-range.ensures ∙ t.before.if2.false in
+    let k = c.nature_of-nature in
+    let a = c.args in
+    let other = sym c.is_range.ensures ∙ c.if-is_range.false in
     record {
-      fields = rw (← k.ensures, ne_eqb k.result absent_nature r.before.if1.false, other, ne_eqb k.result text_lists_nature t.if3.false, and-true, c.lists-permitted2.ensures);
+      fields = rw (← k.ensures, ne_eqb k.result absent_nature c.if-nature-eq-ABSENT_NATURE.false, other, ne_eqb k.result text_lists_nature c.if-nature-eq-TEXT_LISTS.false, and-true, c.lists_permitted-2.ensures);
       bounds = sym (no_range_passes (form_of a.f) a.s.now (ap is_range_nature (sym k.ensures) ∙ other));
     }
 

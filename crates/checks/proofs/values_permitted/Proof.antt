@@ -9,19 +9,18 @@ use Rattle.checks.proofs.values_permitted.Tie as tie
 returns : tie.Need-returns
 unfolding values_permitted
 returns c =
-    let d = c.before.before.before in
     rw (
       or_zero,
       or_zero,
       or_zero,
       or_zero,
-      last_second c.columns-permitted.result,
-      d.before.before.field-word.ensures,
-      d.before.field-word2.ensures,
-      d.field-word3.ensures,
-      c.before.before.field-word4.ensures,
-      c.before.field-word5.ensures,
-      c.columns-permitted.ensures,
+      last_second c.columns_permitted.result,
+      c.field_word.ensures,
+      c.field_word-2.ensures,
+      c.field_word-3.ensures,
+      c.field_word-4.ensures,
+      c.field_word-5.ensures,
+      c.columns_permitted.ensures,
     )
 
 pub values_permitted_spec : {M : Type 1} → statement M

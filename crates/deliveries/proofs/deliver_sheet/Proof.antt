@@ -6,30 +6,23 @@ use Rattle.deliveries.proofs.deliver_sheet.Statement.{statement}
 use Rattle.deliveries.proofs.deliver_sheet.Tie as tie
 
 deliver-requires : tie.Need-deliver-requires
-deliver-requires c κs = rw c.before.before.put2.given.1 at c.before.before.before.before.before.before.requires
+deliver-requires c κs = rw c.in-At.is at c.requires
 
-returns : tie.Need-returns
+returns : tie.Need-returns-then-deliver
 returns c =
-    let done = c.before.before.before in
-    let put = done.before.before.before.put2.given in
-    let start = done.before.before.before.before.before.before.before in
-    let held = rw put.1 at start.requires in
-    rw put.1
-    (delivery_fits start.args.out.now start.args.scratch.now put.0.0 held done.deliver.ensures.1 (sym done.deliver.ensures.0 ∙ c.if1.true), held)
+    let held = rw c.in-At.is at c.requires in
+    rw c.in-At.is
+    (delivery_fits c.args.out.now c.args.scratch.now c.in-At.n held c.deliver.ensures.1 (sym c.deliver.ensures.0 ∙ c.if-deliver.true), held)
 
-returns-2 : tie.Need-returns-2
+returns-2 : tie.Need-returns-in-Refused
 returns-2 c =
-    let put = c.before.put.given in
-    rw put.1 (delivery_refused c.before.before.before.before.before.args.out.now put.0.0, tt)
+    rw c.in-Refused.is (delivery_refused c.args.out.now c.in-Refused.k, tt)
 
-returns-3 : tie.Need-returns-3
+returns-3 : tie.Need-returns-else-deliver
 returns-3 c =
-    let done = c.before.before.before in
-    let put = done.before.before.before.put2.given in
-    let start = done.before.before.before.before.before.before.before in
-    let held = rw put.1 at start.requires in
-    rw put.1
-    (delivery_short start.args.out.now start.args.scratch.now put.0.0 held done.deliver.ensures.1 (sym done.deliver.ensures.0 ∙ c.if1.false), tt)
+    let held = rw c.in-At.is at c.requires in
+    rw c.in-At.is
+    (delivery_short c.args.out.now c.args.scratch.now c.in-At.n held c.deliver.ensures.1 (sym c.deliver.ensures.0 ∙ c.if-deliver.false), tt)
 
 pub deliver_sheet_spec : {M : Type 1} → statement M
 deliver_sheet_spec =

@@ -6,14 +6,14 @@ use Rattle.ends.specs.declared.End.{End}
 use Rattle.ends.proofs.both.Statement.{statement}
 use Rattle.ends.proofs.both.Tie as tie
 
-returns : tie.Need-returns
-returns c = sym (ap (λ (l : End). both_ends l c.before.before.before.args.upper) c.before.lower.given.1)
+returns : tie.Need-returns-in-Refused
+returns c = sym (ap (λ (l : End). both_ends l c.args.upper) c.in-Refused.is)
 
-returns-2 : tie.Need-returns-2
-returns-2 c = sym (ap₂ both_ends c.before.before.before.before.lower2.given.1 c.before.upper.given.1)
+returns-2 : tie.Need-returns-in-Refused-upper
+returns-2 c = sym (ap₂ both_ends c.in-Is.is c.in-Refused-upper.is)
 
-returns-3 : tie.Need-returns-3
-returns-3 c = sym (ap₂ both_ends c.before.before.before.before.lower2.given.1 c.before.upper2.given.1)
+returns-3 : tie.Need-returns-in-Is-upper
+returns-3 c = sym (ap₂ both_ends c.in-Is.is c.in-Is-upper.is)
 
 pub both_spec : {M : Type 1} → statement M
 both_spec =

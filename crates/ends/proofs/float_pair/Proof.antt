@@ -9,7 +9,7 @@ float_pair_spec =
     tie.close
     (tie.spec
     (λ c. search rules)
-    (λ c. rw (not_float c.before.args.x.lower c.match.keys2))
+    (λ c. rw (not_float c.args.x.lower c.in_default.in_default-own.keys2))
     (λ c. search rules)
-    (λ c. rw (c.before.before.lower.given.1, not_float c.before.before.before.before.args.x.upper c.match2.keys2))
-    (λ c. rw (c.before.before.before.before.lower.given.1, c.before.upper.given.1)))
+    (λ c. rw (c.in-Float.is, not_float c.args.x.upper c.in_default-upper.in_default-upper-own.keys2))
+    (λ c. rw (c.in-Float.is, c.in-Float-upper.is)))

@@ -11,4 +11,4 @@ corners_spec =
     (tie.spec
     (λ c κs. search rules)
     (λ c κs. search rules)
-    (λ c. rw (c.before.least.ensures, c.greatest.ensures)))
+    (λ c. rw (c.least.ensures, c.greatest.ensures)))

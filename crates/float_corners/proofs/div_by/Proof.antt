@@ -6,35 +6,35 @@ use Rattle.ends.specs.Ends.{div_by}
 use Rattle.float_corners.proofs.div_by.Statement.{statement}
 use Rattle.float_corners.proofs.div_by.Tie as tie
 
-returns : tie.Need-returns
+returns : tie.Need-returns-in_default-upper
 unfolding div_by
 returns c =
-    let v = c.before.before.args in
-    rw (not_float v.lower c.before.match.keys2, not_float v.upper c.match2.keys2)
+    let v = c.args in
+    rw (not_float v.lower c.in_default.in_default-own.keys2, not_float v.upper c.in_default-upper.in_default-upper-own.keys2)
 
-returns-2 : tie.Need-returns-2
+returns-2 : tie.Need-returns-then-f
 unfolding div_by of_bits
 returns-2 c =
-    let v = c.before.before.before.before.before.before.args in
-    rw (not_float v.lower c.before.before.before.before.before.match.keys2, c.before.before.before.upper.given.1, c.before.if1.true) c.unknown.ensures
+    let v = c.args in
+    rw (not_float v.lower c.in_default.in_default-own.keys2, c.in-Float-upper.is, c.if-f.true) c.unknown.ensures
 
-returns-3 : tie.Need-returns-3
+returns-3 : tie.Need-returns-in_default
 unfolding div_by of_bits
 returns-3 c =
-    let v = c.before.before.before.before.before.args in
-    rw (not_float v.lower c.before.before.before.before.match.keys2, c.before.before.upper.given.1, c.if1.false)
+    let v = c.args in
+    rw (not_float v.lower c.in_default.in_default-own.keys2, c.in-Float-upper.is, c.if-f.false)
 
-returns-4 : tie.Need-returns-4
+returns-4 : tie.Need-returns-then-d
 unfolding div_by of_bits
 returns-4 c =
-    let v = c.before.before.before.before.before.before.args in
-    rw (c.before.before.before.before.lower.given.1, not_float v.upper c.before.before.match3.keys2, c.before.if2.true) c.unknown2.ensures
+    let v = c.args in
+    rw (c.in-Float.is, not_float v.upper c.in_default-upper-2.in_default-upper-2-own.keys2, c.if-d.true) c.unknown-then-d.ensures
 
-returns-5 : tie.Need-returns-5
+returns-5 : tie.Need-returns-in_default-upper-2
 unfolding div_by of_bits
 returns-5 c =
-    let v = c.before.before.before.before.before.args in
-    rw (c.before.before.before.lower.given.1, not_float v.upper c.before.match3.keys2, c.if2.false)
+    let v = c.args in
+    rw (c.in-Float.is, not_float v.upper c.in_default-upper-2.in_default-upper-2-own.keys2, c.if-d.false)
 
 pub div_by_spec : {M : Type 1} → statement M
 unfolding div_by
@@ -52,4 +52,4 @@ div_by_spec =
     returns-4
     returns-5
     (λ c κs. search rules)
-    (λ c. rw (c.before.before.before.before.before.lower.given.1, c.before.before.upper2.given.1) c.optimize-quotient.ensures))
+    (λ c. rw (c.in-Float.is, c.in-Float-upper-2.is) c.optimize_quotient.ensures))

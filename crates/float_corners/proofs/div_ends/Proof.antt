@@ -14,6 +14,6 @@ div_ends_spec =
     (λ c. search rules)
     (λ c. search rules)
     (λ c κs. search rules)
-    (λ c. rw (both_on, ← c.before.before.before.float-pair.ensures, c.before.enum_told.given.1) c.unknown.ensures)
+    (λ c. rw (both_on, ← c.float_pair.ensures, c.in_default.is) c.unknown.ensures)
     (λ c κs. search rules)
-    (λ c. rw (both_on, ← c.before.before.before.before.float-pair.ensures, c.before.before.a.given.1) c.div-by.ensures))
+    (λ c. rw (both_on, ← c.float_pair.ensures, c.in-Both.is) c.div_by.ensures))

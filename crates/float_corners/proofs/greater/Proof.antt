@@ -6,5 +6,5 @@ pub greater_spec : {M : Type 1} → statement M
 greater_spec =
     tie.close
     (tie.spec
-    (λ c. rw c.if1.true)
-    (λ c. rw c.if1.false))
+    (λ c. rw c.if-y-x.true)
+    (λ c. rw c.if-y-x.false))

@@ -10,4 +10,4 @@ greatest_spec =
     (λ c κs. search rules)
     (λ c κs. search rules)
     (λ c κs. search rules)
-    (λ c. rw (c.greater3.ensures, c.before.greater2.ensures, c.before.before.greater.ensures)))
+    (λ c. rw (c.greater-3.ensures, c.greater-2.ensures, c.greater.ensures)))

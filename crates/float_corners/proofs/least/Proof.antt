@@ -10,4 +10,4 @@ least_spec =
     (λ c κs. search rules)
     (λ c κs. search rules)
     (λ c κs. search rules)
-    (λ c. rw (c.lesser3.ensures, c.before.lesser2.ensures, c.before.before.lesser.ensures)))
+    (λ c. rw (c.lesser-3.ensures, c.lesser-2.ensures, c.lesser.ensures)))

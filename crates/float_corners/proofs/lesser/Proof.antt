@@ -6,5 +6,5 @@ pub lesser_spec : {M : Type 1} → statement M
 lesser_spec =
     tie.close
     (tie.spec
-    (λ c. rw c.if1.true)
-    (λ c. rw c.if1.false))
+    (λ c. rw c.if-y-x.true)
+    (λ c. rw c.if-y-x.false))

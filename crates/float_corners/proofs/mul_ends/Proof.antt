@@ -5,17 +5,17 @@ use Rattle.ends.proofs.Rules.{both_on}
 use Rattle.float_corners.proofs.mul_ends.Statement.{statement}
 use Rattle.float_corners.proofs.mul_ends.Tie as tie
 
-returns-2 : tie.Need-returns-2
+returns-2 : tie.Need-returns-in_default-float_pair
 unfolding mul_ends
 returns-2 c =
-    rw (both_on, ← c.before.before.before.before.before.before.before.float-pair.ensures, c.before.before.before.before.before.a.given.1)
-    (rw (both_on, ← c.before.before.before.float-pair2.ensures, c.before.enum-told2.given.1) c.unknown2.ensures)
+    rw (both_on, ← c.float_pair.ensures, c.in-Both.is)
+    (rw (both_on, ← c.float_pair-2.ensures, c.in_default-float_pair.is) c.unknown-in_default-float_pair.ensures)
 
-returns-3 : tie.Need-returns-3
+returns-3 : tie.Need-returns
 unfolding mul_ends
 returns-3 c =
-    rw (both_on, ← c.before.before.before.before.before.before.before.before.float-pair.ensures, c.before.before.before.before.before.before.a.given.1)
-    (rw (both_on, ← c.before.before.before.before.float-pair2.ensures, c.before.before.d.given.1) c.optimize-product.ensures)
+    rw (both_on, ← c.float_pair.ensures, c.in-Both.is)
+    (rw (both_on, ← c.float_pair-2.ensures, c.in-Both-float_pair.is) c.optimize_product.ensures)
 
 pub mul_ends_spec : {M : Type 1} → statement M
 unfolding mul_ends
@@ -26,7 +26,7 @@ mul_ends_spec =
     (λ c. search rules)
     (λ c. search rules)
     (λ c κs. search rules)
-    (λ c. rw (both_on, ← c.before.before.before.float-pair.ensures, c.before.enum_told.given.1) c.unknown.ensures)
+    (λ c. rw (both_on, ← c.float_pair.ensures, c.in_default.is) c.unknown.ensures)
     (λ c κs. search rules)
     (λ c. search rules)
     (λ c. search rules)

@@ -11,5 +11,5 @@ last_end_spec =
     tie.close
     (tie.spec
     (λ c. search rules)
-    (λ c. rw (not_float c.before.args.x c.match.keys2))
-    (λ c. rw c.before.x.given.1))
+    (λ c. rw (not_float c.args.x c.in_default.in_default-own.keys2))
+    (λ c. rw c.in-Float.is))

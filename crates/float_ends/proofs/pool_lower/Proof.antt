@@ -11,8 +11,8 @@ pool_lower_spec =
     tie.close
     (tie.spec
     (λ c. search rules)
-    (λ c. rw (not_float c.before.args.x c.match.keys2))
+    (λ c. rw (not_float c.args.x c.in_default.in_default-own.keys2))
     (λ c. search rules)
-    (λ c. rw (c.before.before.x.given.1, not_float c.before.before.before.before.args.y c.match2.keys2))
+    (λ c. rw (c.in-Float.is, not_float c.args.y c.in_default-y.in_default-y-own.keys2))
     (λ c κs. search rules)
-    (λ c. rw (c.before.before.before.before.before.x.given.1, c.before.before.y.given.1, c.lesser.ensures)))
+    (λ c. rw (c.in-Float.is, c.in-Float-y.is, c.lesser.ensures)))

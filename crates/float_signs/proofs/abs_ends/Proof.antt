@@ -9,21 +9,21 @@ use Rattle.ends.proofs.Signs.{bits_on_lem, NumbersOn, numbers_on}
 use Rattle.float_signs.proofs.abs_ends.Statement.{statement}
 use Rattle.float_signs.proofs.abs_ends.Tie as tie
 
-returns : tie.Need-returns
+returns : tie.Need-returns-in_default
 unfolding abs_ends
 returns c =
-    let pair = c.before.before.before.float-pair.ensures in
-    let told = c.before.enum_told.given.1 in
+    let pair = c.float_pair.ensures in
+    let told = c.in_default.is in
     (rw (both_on, ← pair, told) c.unknown.ensures, λ n. rw (bits_on_lem, ← pair, told, c.unknown.ensures))
 
-returns-2 : tie.Need-returns-2
+returns-2 : tie.Need-returns
 unfolding abs_ends
 returns-2 c =
-    let pair = c.before.before.before.before.before.float-pair.ensures in
-    let told = c.before.before.before.a.given.1 in
-    let low = c.before.abs-lower.ensures in
-    let high = c.abs-upper.ensures in
-    let x = c.before.before.before.before.before.before.args.x in (
+    let pair = c.float_pair.ensures in
+    let told = c.in-Both.is in
+    let low = c.abs_lower.ensures in
+    let high = c.abs_upper.ensures in
+    let x = c.args.x in (
       rw (both_on, ← pair, told, ← low.0, ← high.0),
       λ n. let m = subst NumbersOn (sym pair ∙ ap float_pair told) (numbers_on (float_end x.lower) (float_end x.upper) n.0 n.1) in rw (bits_on_lem, ← pair, told, low.1 m.0 m.1, high.1 m.0 m.1),
     )

@@ -12,5 +12,5 @@ abs_lower_spec =
     (tie.spec
     (λ c κs. search rules)
     (λ c κs. search rules)
-    (λ c. rw c.before.if1.true (rw c.copy.ensures.0, λ n m. c.copy.ensures.1 n))
-    (λ c. rw c.before.if1.false (rw c.negate.ensures.0, λ n m. c.negate.ensures.1 m)))
+    (λ c. rw c.if-a.true (rw c.copy.ensures.0, λ n m. c.copy.ensures.1 n))
+    (λ c. rw c.if-a.false (rw c.negate.ensures.0, λ n m. c.negate.ensures.1 m)))

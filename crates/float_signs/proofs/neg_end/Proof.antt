@@ -7,13 +7,13 @@ use Rattle.ends.specs.Ends.{from_one}
 use Rattle.float_signs.proofs.neg_end.Statement.{statement}
 use Rattle.float_signs.proofs.neg_end.Tie as tie
 
-returns : tie.Need-returns
+returns : tie.Need-returns-in_default
 unfolding from_one
-returns c = rw (not_float c.before.args.x c.match.keys2) (refl, λ n. refl)
+returns c = rw (not_float c.args.x c.in_default.in_default-own.keys2) (refl, λ n. refl)
 
-returns-2 : tie.Need-returns-2
+returns-2 : tie.Need-returns
 unfolding from_one
-returns-2 c = rw c.before.before.x.given.1 (rw c.negate.ensures.0, λ n. ap some (c.negate.ensures.1 n))
+returns-2 c = rw c.in-Float.is (rw c.negate.ensures.0, λ n. ap some (c.negate.ensures.1 n))
 
 pub neg_end_spec : {M : Type 1} → statement M
 neg_end_spec =

@@ -7,22 +7,20 @@ use Rattle.gate.proofs.join_texts.Statement.{statement}
 use Rattle.gate.proofs.join_texts.Tie as tie
 
 -- room for every sheet
-step-requires : tie.Need-step-requires
+step-requires : tie.Need-step-joined-requires
 step-requires c κs =
     step_lent (search rules)
     (λ e. record { stores = search rules; arrays = search rules; sheet_room = search rules })
     (λ e. record { stores = search rules; sheet_room = search rules })
 
-deliver-reply-requires : tie.Need-deliver-reply-requires
+deliver-reply-requires : tie.Need-deliver_reply-requires
 deliver-reply-requires c κs =
-    let s = c.before.before.before.before.before.before.before.before.before in
-    (rw s.step.auto.1.1.1.1.1.1.1.1.1.1.1.0 s.step.ensures.1, search rules)
+    (rw c.step-joined.auto.out c.step-joined.ensures.1, search rules)
 
 returns : tie.Need-returns
 returns c =
-    let s = c.before.before.before.before.before.before.before.before.before.before.before.before in
-    let a = s.before.before.before.before.before.before.before.before.before.before.before.args in
-    c.before.before.deliver-reply.ensures ∙ ap (λ r. delivery r a.out.now) s.step.ensures.0
+    let a = c.args in
+    c.deliver_reply.ensures ∙ ap (λ r. delivery r a.out.now) c.step-joined.ensures.0
 
 pub join_texts_spec : {M : Type 1} → statement M
 join_texts_spec =

@@ -11,19 +11,19 @@ use Rattle.gate.proofs.Replies.{begun_ended, contained_reply}
 use Rattle.gate.proofs.propagate_properties.Statement.{statement}
 use Rattle.gate.proofs.propagate_properties.Tie as tie
 
-walked-reply-requires : tie.Need-walked-reply-requires
+walked-reply-requires : tie.Need-walked_reply-requires
 walked-reply-requires c κs =
-    let a = c.before.before.before.before.before.args in
-    begun_ended a.plan.now a.work.now c.before.begin.result c.match.keys2 c.before.begin.ensures.1
+    let a = c.args in
+    begun_ended a.plan.now a.work.now c.begin-begun.result c.in_default.in_default-own.keys2 c.begin-begun.ensures.1
 
-returns : tie.Need-returns
+returns : tie.Need-returns-in_default
 returns c =
-    let a = c.before.before.before.before.before.before.args in
-    let same = c.walked-reply.ensures full_set a.plan.now a.work.now ∙ c.before.before.begin.ensures.0 in
-    (same, contained_reply a.plan.now a.work.now a.work.now c.walked-reply.result (λ i. (c.before.before.before.before.slice-known.given i).fits) same)
+    let a = c.args in
+    let same = c.walked_reply.ensures full_set a.plan.now a.work.now ∙ c.begin-begun.ensures.0 in
+    (same, contained_reply a.plan.now a.work.now a.work.now c.walked_reply.result (λ i. (c.slice_known-1.given i).fits) same)
 
 -- the steps are next
-module _ (c : tie.After-begun) where
+module _ (c : tie.In-Next) where
   abbrev start : tie.Start
   start = c.before.before.before.before.before.before
 
@@ -33,20 +33,20 @@ module _ (c : tie.After-begun) where
   abbrev work : List ℕ
   work = start.args.work.now
 
-  ready : Walkable p work × (c.begun.given.0.0 ≡ leaf_count p)
-  ready = subst (Begun p work) c.begun.given.1 c.before.before.begin.ensures.1
+  ready : Walkable p work × (c.in-Next.k ≡ leaf_count p)
+  ready = subst (Begun p work) c.in-Next.is c.before.before.begin-begun.ensures.1
 
-walk-steps-requires : tie.Need-walk-steps-requires
+walk-steps-requires : tie.Need-walk_steps-requires
 walk-steps-requires c κs = ready c.before.before
 
-returns-2 : tie.Need-returns-2
+returns-2 : tie.Need-returns
 returns-2 c =
     let done = c.before.before.before in
     let b = done.before.before.before in
-    let after = done.walk_steps.new.1.1.1.0 in
-    let same = c.walked-reply2.ensures full_set (p b) after ∙ done.walk_steps.ensures.0
-    ∙ sym (ap (λ (w : Walked). walked full_set (p b) w (work b)) b.begun.given.1) ∙ b.before.before.begin.ensures.0 in
-    (same, contained_reply (p b) (work b) after c.walked-reply2.result (λ i. (b.before.before.before.before.slice-known.given i).fits) same)
+    let after = c.walk_steps.new.work in
+    let same = c.walked_reply-2.ensures full_set (p b) after ∙ c.walk_steps.ensures.0
+    ∙ sym (ap (λ (w : Walked). walked full_set (p b) w (work b)) c.in-Next.is) ∙ c.begin-begun.ensures.0 in
+    (same, contained_reply (p b) (work b) after c.walked_reply-2.result (λ i. (c.slice_known-1.given i).fits) same)
 
 pub propagate_properties_spec : {M : Type 1} → statement M
 propagate_properties_spec =

@@ -14,64 +14,54 @@ use Rattle.gate.proofs.Replies.{single_unlisted, single_is}
 use Rattle.gate.proofs.propagate_property.Statement.{statement}
 use Rattle.gate.proofs.propagate_property.Tie as tie
 
-returns : tie.Need-returns
+returns : tie.Need-returns-in_default
 returns c =
-    let a = c.before.before.before.before.before.before.before.args in
+    let a = c.args in
     reply_is 2 0 a.out.now (omega arith) c.reply.ensures
-    ∙ single_unlisted a.component a.node a.left.now a.right.now a.out.now (sym c.before.before.before.from-number.ensures ∙ c.before.enum_told.given.1)
+    ∙ single_unlisted a.component a.node a.left.now a.right.now a.out.now (sym c.from_number-numbered.ensures ∙ c.in_default.is)
 
 -- texts
-returns-2 : tie.Need-returns-2
+returns-2 : tie.Need-returns-then-joins_texts
 returns-2 c =
-    let named = c.before.before.before.before.before.before.before in
-    let a = named.before.before.before.before.before.before.args in
-    c.before.before.join-texts.ensures
-    ∙ single_is a.component a.node a.left.now a.right.now a.out.now (sym named.before.before.from-number.ensures ∙ named.numbered.given.1)
+    let a = c.args in
+    c.join_texts.ensures
+    ∙ single_is a.component a.node a.left.now a.right.now a.out.now (sym c.from_number-numbered.ensures ∙ c.in-Is.is)
 
 -- no texts, no area
-step-requires : tie.Need-step-requires
+step-requires : tie.Need-step-put-requires
 step-requires c κs =
-    let tested = c.before.before.before.before.before.before.before.before.before in
     step_lent (search rules)
     (λ e. record { stores = search rules; arrays = search rules; sheet_room = search rules })
-    (λ e. absurd (subst T (sym e ∙ sym tested.before.joins-texts.ensures ∙ tested.if1.false) tt))
+    (λ e. absurd (subst T (sym e ∙ sym c.joins_texts.ensures ∙ c.if-joins_texts.false) tt))
 
-deliver-reply-requires : tie.Need-deliver-reply-requires
+deliver-reply-requires : tie.Need-deliver_reply-requires
 deliver-reply-requires c κs =
-    let s = c.before.before.before.before.before.before.before.before.before in
-    (rw s.step.auto.1.1.1.1.1.1.1.1.1.1.1.0 s.step.ensures.1, search rules)
+    (rw c.step-put.auto.out c.step-put.ensures.1, search rules)
 
-returns-3 : tie.Need-returns-3
+returns-3 : tie.Need-returns-then-joins_lists
 returns-3 c =
-    let s = c.before.before.before.before.before.before.before.before.before.before.before.before in
-    let named = s.before.before.before.before.before.before.before.before.before.before.before.before.before in
-    let a = named.before.before.before.before.before.before.args in
-    c.before.before.deliver-reply.ensures
-    ∙ ap (λ r. delivery r a.out.now) s.step.ensures.0
-    ∙ single_is a.component a.node a.left.now a.right.now a.out.now (sym named.before.before.from-number.ensures ∙ named.numbered.given.1)
+    let a = c.args in
+    c.deliver_reply.ensures
+    ∙ ap (λ r. delivery r a.out.now) c.step-put.ensures.0
+    ∙ single_is a.component a.node a.left.now a.right.now a.out.now (sym c.from_number-numbered.ensures ∙ c.in-Is.is)
 
 -- no categories, no stores
-step-requires-2 : tie.Need-step-requires-2
+step-requires-2 : tie.Need-step-put-requires-2
 step-requires-2 c κs =
-    let listed = c.before.before.before.before.before.before.before in
-    let tested = listed.before.before in
     step_lent (search rules)
-    (λ e. absurd (subst T (sym e ∙ sym listed.before.joins-lists.ensures ∙ listed.if2.false) tt))
-    (λ e. absurd (subst T (sym e ∙ sym tested.before.joins-texts.ensures ∙ tested.if1.false) tt))
+    (λ e. absurd (subst T (sym e ∙ sym c.joins_lists.ensures ∙ c.if-joins_lists.false) tt))
+    (λ e. absurd (subst T (sym e ∙ sym c.joins_texts.ensures ∙ c.if-joins_texts.false) tt))
 
-deliver-reply-requires-2 : tie.Need-deliver-reply-requires-2
+deliver-reply-requires-2 : tie.Need-deliver_reply-requires-2
 deliver-reply-requires-2 c κs =
-    let s = c.before.before.before.before.before.before.before.before.before in
-    (rw s.step2.auto.1.1.1.1.1.1.1.1.1.1.1.0 s.step2.ensures.1, search rules)
+    (rw c.step-put-2.auto.out c.step-put-2.ensures.1, search rules)
 
-returns-4 : tie.Need-returns-4
+returns-4 : tie.Need-returns
 returns-4 c =
-    let s = c.before.before.before.before.before.before.before.before.before.before.before.before in
-    let named = s.before.before.before.before.before.before.before.before.before.before.before.before.before in
-    let a = named.before.before.before.before.before.before.args in
-    c.before.before.deliver-reply2.ensures
-    ∙ ap (λ r. delivery r a.out.now) s.step2.ensures.0
-    ∙ single_is a.component a.node a.left.now a.right.now a.out.now (sym named.before.before.from-number.ensures ∙ named.numbered.given.1)
+    let a = c.args in
+    c.deliver_reply-2.ensures
+    ∙ ap (λ r. delivery r a.out.now) c.step-put-2.ensures.0
+    ∙ single_is a.component a.node a.left.now a.right.now a.out.now (sym c.from_number-numbered.ensures ∙ c.in-Is.is)
 
 pub propagate_property_spec : {M : Type 1} → statement M
 propagate_property_spec =

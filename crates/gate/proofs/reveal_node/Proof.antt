@@ -4,7 +4,7 @@ use mathlib.Core.List.{List}
 use Prim.Native.Nat.{ℕ}
 use native.Mathlib.Omega.{arith}
 use borrow.Author.Rules.{rules}
-use Rattle.bytes.proofs.Reread.{AllBytes}
+use Rattle.octets.proofs.Reread.{AllBytes}
 use Rattle.base.specs.Form.{narrow}
 use Rattle.calls.specs.Walk.{walk}
 use Rattle.plan_leaves.specs.Code.{nodes_from, walked, LeavesSay}
@@ -15,7 +15,7 @@ use Rattle.gate.proofs.Revealing.{admitted_ended, admitted_shown, leaves_ended, 
 use Rattle.gate.proofs.reveal_node.Statement.{statement}
 use Rattle.gate.proofs.reveal_node.Tie as tie
 
-module _ (c : tie.After-admitted) where
+module _ (c : tie.After-admitted-admitted) where
   abbrev start : tie.Start
   start = c.before.before.before.before.before.before
 
@@ -32,40 +32,40 @@ module _ (c : tie.After-admitted) where
   out = start.args.out.now
 
   small : AllBytes work
-  small = λ i. (c.before.before.before.slice-known.given i).fits
+  small = λ i. (c.before.before.before.slice_known-1.given i).fits
 
-walked-reply-requires : tie.Need-walked-reply-requires
+walked-reply-requires : tie.Need-walked_reply-requires
 walked-reply-requires c κs =
     let call = c.before in
     let a = (start call).args in
-    admitted_ended (p call) (owners call) a.reader a.wanted (work call) (out call) call.admitted.result c.match.keys2 call.admitted.ensures
+    admitted_ended (p call) (owners call) a.reader a.wanted (work call) (out call) c.admitted-admitted.result c.in_default.in_default-own.keys2 c.admitted-admitted.ensures
 
-returns : tie.Need-returns
+returns : tie.Need-returns-in_default
 returns c =
     let call = c.before.before in
     let a = (start call).args in
     all_clauses (p call) (owners call) a.reader a.wanted (work call) (out call) (small call)
-    (admitted_shown (p call) (owners call) a.reader a.wanted (work call) (out call) call.admitted.result c.walked-reply.result c.before.match.keys2 call.admitted.ensures c.walked-reply.ensures)
+    (admitted_shown (p call) (owners call) a.reader a.wanted (work call) (out call) c.admitted-admitted.result c.walked_reply.result c.in_default.in_default-own.keys2 c.admitted-admitted.ensures c.walked_reply.ensures)
 
 -- the reader may see the node
-permitted : (c : tie.After-enum-told) → let call = c.before.before in let a = (start call).args in Permitted (p call) (owners call) a.reader a.wanted (work call)
+permitted : (c : tie.In-Next) → let call = c.before.before in let a = (start call).args in Permitted (p call) (owners call) a.reader a.wanted (work call)
 permitted c =
     let call = c.before.before in
     let a = (start call).args in
-    subst (Admitted (p call) (owners call) a.reader a.wanted (work call)) c.enum_told.given.1 call.admitted.ensures
+    subst (Admitted (p call) (owners call) a.reader a.wanted (work call)) c.in-Next.is c.admitted-admitted.ensures
 
-stands-on-requires : tie.Need-stands-on-requires
+stands-on-requires : tie.Need-stands_on-nodes-requires
 stands-on-requires c κs = (permitted c).node
 
-check-leaves-requires : tie.Need-check-leaves-requires
-check-leaves-requires c κs = (permitted c.before.before).walkable
+check-leaves-requires : tie.Need-check_leaves-leaves-requires
+check-leaves-requires c κs = (permitted c.before).walkable
 
-walked-reply-requires-2 : tie.Need-walked-reply-requires-2
+walked-reply-requires-2 : tie.Need-walked_reply-requires-in_default-leaves
 walked-reply-requires-2 c κs =
     let check = c.before in
-    leaves_ended (p check.before.before.before.before.before) check.check-leaves.result c.match2.keys2 check.check-leaves.ensures.next
+    leaves_ended (p check.before.before.before.before.before) c.check_leaves-leaves.result c.in_default-leaves.in_default-leaves-own.keys2 c.check_leaves-leaves.ensures.next
 
-returns-2 : tie.Need-returns-2
+returns-2 : tie.Need-returns-in_default-leaves
 returns-2 c =
     let check = c.before.before in
     let stood = check.before.before in
@@ -73,53 +73,53 @@ returns-2 c =
     let call = told.before.before in
     let a = (start call).args in
     all_clauses (p call) (owners call) a.reader a.wanted (work call) (out call) (small call)
-    (leaves_shown (p call) (owners call) a.reader a.wanted (work call) (out call) (permitted told) stood.Stands-on.result stood.Stands-on.ensures
-    check.check-leaves.result c.walked-reply2.result c.before.match2.keys2 check.check-leaves.ensures c.walked-reply2.ensures)
+    (leaves_shown (p call) (owners call) a.reader a.wanted (work call) (out call) (permitted c.before.before.before.before) c.Stands-on.result c.Stands-on.ensures
+    c.check_leaves-leaves.result c.walked_reply-in_default-leaves.result c.in_default-leaves.in_default-leaves-own.keys2 c.check_leaves-leaves.ensures c.walked_reply-in_default-leaves.ensures)
 
 -- the leaves passed
-module _ (c : tie.After-leaves) where
-  abbrev stood : tie.After-stands-on
+module _ (c : tie.In-Next-leaves) where
+  abbrev stood : tie.After-stands_on-nodes
   stood = c.before.before.before.before
 
-  abbrev told : tie.After-enum-told
+  abbrev told : tie.In-Next
   told = stood.before
 
-  abbrev call : tie.After-admitted
+  abbrev call : tie.After-admitted-admitted
   call = told.before.before
 
-  says : LeavesSay stood.Stands-on.result (p call) (work call) (W.Next c.leaves.given.0.0)
-  says = subst (LeavesSay stood.Stands-on.result (p call) (work call)) c.leaves.given.1 c.before.before.check-leaves.ensures
+  says : LeavesSay stood.Stands-on.result (p call) (work call) (W.Next c.in-Next-leaves.k)
+  says = subst (LeavesSay stood.Stands-on.result (p call) (work call)) c.in-Next-leaves.is c.before.before.check_leaves-leaves.ensures
 
-walk-steps-requires : tie.Need-walk-steps-requires
+walk-steps-requires : tie.Need-walk_steps-steps-requires
 walk-steps-requires c κs = let l = c.before.before in ((permitted (told l)).walkable, (says l).next)
 
 -- the steps were taken
-module _ (c : tie.After-walk-steps) where
-  abbrev passed : tie.After-leaves
+module _ (c : tie.After-walk_steps-steps) where
+  abbrev passed : tie.In-Next-leaves
   passed = c.before.before.before
 
   abbrev after : List ℕ
-  after = c.walk_steps.new.1.1.1.0
+  after = c.walk_steps-steps.new.work
 
-returns-3 : tie.Need-returns-3
+returns-3 : tie.Need-returns-in_default-steps
 returns-3 c =
     let done = c.before.before.before.before in
     let l = passed done in
     let a = (start (call l)).args in
     all_clauses (p (call l)) (owners (call l)) a.reader a.wanted (work (call l)) (out (call l)) (small (call l))
     (steps_shown (p (call l)) (owners (call l)) a.reader a.wanted (work (call l)) (out (call l)) (permitted (told l)) (stood l).Stands-on.result (stood l).Stands-on.ensures
-    l.leaves.given.0.0 (says l) (after done) done.walk_steps.result c.walked-reply3.result c.before.match3.keys2 done.walk_steps.ensures.1
-    done.walk_steps.ensures.0 c.walked-reply3.ensures)
+    l.leaves.given.0.0 (says l) (after done) c.walk_steps-steps.result c.walked_reply-in_default-steps.result c.in_default-steps.in_default-steps-own.keys2 c.walk_steps-steps.ensures.1
+    c.walk_steps-steps.ensures.0 c.walked_reply-in_default-steps.ensures)
 
-show-reply-requires : tie.Need-show-reply-requires
+show-reply-requires : tie.Need-show_reply-requires
 show-reply-requires c κs =
     let done = c.before.before.before.before.before.before in
     let l = passed done in
     let h = (permitted (told l)).node.within in
     let room = (permitted (told l)).walkable.room in
-    omega (arith, done.walk_steps.auto)
+    omega (arith, c.walk_steps-steps.auto)
 
-returns-4 : tie.Need-returns-4
+returns-4 : tie.Need-returns
 returns-4 c =
     let shown = c.before.before in
     let accepted = shown.before.before.before in
@@ -128,10 +128,10 @@ returns-4 c =
     let a = (start (call l)).args in
     let nodes = (stood l).Stands-on.result in
     let took = subst (λ (w : Walked). walked nodes (p (call l)) w (after done) ≡ walk narrow (p (call l)) (nodes_from nodes (p (call l)) l.leaves.given.0.0) (work (call l)))
-    accepted.enum-told2.given.1 done.walk_steps.ensures.0 in
+    c.in-Accepted.is c.walk_steps-steps.ensures.0 in
     all_clauses (p (call l)) (owners (call l)) a.reader a.wanted (work (call l)) (out (call l)) (small (call l))
     (sheet_shown (p (call l)) (owners (call l)) a.reader a.wanted (work (call l)) (out (call l)) (permitted (told l)) nodes (stood l).Stands-on.ensures
-    l.leaves.given.0.0 (says l) (after done) _ shown.show-reply.result _ took shown.show-reply.ensures)
+    l.leaves.given.0.0 (says l) (after done) _ c.show_reply.result _ took c.show_reply.ensures)
 
 pub reveal_node_spec : {M : Type 1} → statement M
 reveal_node_spec =

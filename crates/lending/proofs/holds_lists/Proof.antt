@@ -7,15 +7,15 @@ use Rattle.base.specs.Form.{form_of}
 use Rattle.lending.proofs.holds_lists.Statement.{statement}
 use Rattle.lending.proofs.holds_lists.Tie as tie
 
-returns : tie.Need-returns
+returns : tie.Need-returns-then-s-arrays_at
 returns c =
-    let a = c.before.before.before.args in
+    let a = c.args in
     rw (lt-leb (form_of a.f).arrays_at (length a.s.now) (omega arith))
 
-returns-2 : tie.Need-returns-2
+returns-2 : tie.Need-returns
 returns-2 c =
-    let a = c.before.before.before.before.args in
-    rw (le-leb (form_of a.f).arrays_at (length a.s.now) (omega arith), c.nature-of.ensures)
+    let a = c.args in
+    rw (le-leb (form_of a.f).arrays_at (length a.s.now) (omega arith), c.nature_of.ensures)
 
 pub holds_lists_spec : {M : Type 1} → statement M
 holds_lists_spec = tie.close (tie.spec (λ c κs. search rules) returns (λ c κs. search rules) returns-2)

@@ -10,33 +10,29 @@ use Rattle.lending.proofs.Lending.{none_held}
 use Rattle.lending.proofs.joins_lists.Statement.{statement}
 use Rattle.lending.proofs.joins_lists.Tie as tie
 
-returns : tie.Need-returns
+returns : tie.Need-returns-then-not-holds_categories
 returns c =
-    let a = c.before.before.before.before.args in
-    none_held (family_of a.c) (form_of a.f) a.left.now a.right.now (sym c.before.holds-categories.ensures ∙ not-true c.before.holds-categories.result c.if1.true)
+    let a = c.args in
+    none_held (family_of a.c) (form_of a.f) a.left.now a.right.now (sym c.holds_categories.ensures ∙ c.if-not-holds_categories.true)
 
 -- left holds categories
-held : (c : tie.Else1) → let a = c.before.before.before.before.args in holds_categories (form_of a.f) a.left.now ≡ true
-held c = sym c.before.holds-categories.ensures ∙ not-false c.before.holds-categories.result c.if1.false
+held : (c : tie.Else-not-holds_categories) → let a = c.args in holds_categories (form_of a.f) a.left.now ≡ true
+held c = sym c.holds_categories.ensures ∙ c.if-not-holds_categories.false
 
-returns-2 : tie.Need-returns-2
+returns-2 : tie.Need-returns-in-Unary
 returns-2 c =
-    let t = c.before in
-    rw (sym t.before.before.family.ensures ∙ t.enum_told.given.1) c.holds-lists.ensures
+    rw (sym c.family-family.ensures ∙ c.in-Unary.is) c.holds_lists.ensures
 
-returns-3 : tie.Need-returns-3
+returns-3 : tie.Need-returns-in-Pair
 returns-3 c =
-    let t = c.before.before in
-    rw (sym t.before.before.family.ensures ∙ t.enum-told2.given.1, ← c.before.holds-lists2.ensures, ← c.holds-lists3.ensures)
+    rw (sym c.family-family.ensures ∙ c.in-Pair.is, ← c.holds_lists-in-Pair.ensures, ← c.holds_lists-in-Pair-2.ensures)
 
-returns-4 : tie.Need-returns-4
-returns-4 c = let m = c.before.before in rw (sym m.family.ensures ∙ c.enum-told3.given.1)
+returns-4 : tie.Need-returns-in-Copy
+returns-4 c = rw (sym c.family-family.ensures ∙ c.in-Copy.is)
 
-returns-5 : tie.Need-returns-5
+returns-5 : tie.Need-returns-in-Pool
 returns-5 c =
-    let t = c.before in
-    let m = t.before.before in
-    rw (sym m.family.ensures ∙ t.enum-told4.given.1, held m.before) c.holds-categories2.ensures
+    rw (sym c.family-family.ensures ∙ c.in-Pool.is, held c.before.before.before) c.holds_categories-in-Pool.ensures
 
 pub joins_lists_spec : {M : Type 1} → statement M
 joins_lists_spec =

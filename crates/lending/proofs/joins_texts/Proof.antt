@@ -10,32 +10,28 @@ use Rattle.lending.proofs.Lending.{no_texts}
 use Rattle.lending.proofs.joins_texts.Statement.{statement}
 use Rattle.lending.proofs.joins_texts.Tie as tie
 
-returns : tie.Need-returns
+returns : tie.Need-returns-then-not-holds_texts
 returns c =
-    let a = c.before.before.before.before.args in
-    no_texts (family_of a.c) (form_of a.f) a.left.now a.right.now (sym c.before.holds_texts.ensures ∙ not-true c.before.holds_texts.result c.if1.true)
+    let a = c.args in
+    no_texts (family_of a.c) (form_of a.f) a.left.now a.right.now (sym c.holds_texts.ensures ∙ c.if-not-holds_texts.true)
 
 -- left holds texts
-held : (c : tie.Else1) → let a = c.before.before.before.before.args in holds_texts (form_of a.f) a.left.now ≡ true
-held c = sym c.before.holds_texts.ensures ∙ not-false c.before.holds_texts.result c.if1.false
+held : (c : tie.Else-not-holds_texts) → let a = c.args in holds_texts (form_of a.f) a.left.now ≡ true
+held c = sym c.holds_texts.ensures ∙ c.if-not-holds_texts.false
 
-returns-2 : tie.Need-returns-2
-returns-2 c = let m = c.before.before in rw (sym m.family.ensures ∙ c.enum_told.given.1)
+returns-2 : tie.Need-returns-in-Unary
+returns-2 c = rw (sym c.family-family.ensures ∙ c.in-Unary.is)
 
-returns-3 : tie.Need-returns-3
+returns-3 : tie.Need-returns-in-Pair
 returns-3 c =
-    let t = c.before in
-    let m = t.before.before in
-    rw (sym m.family.ensures ∙ t.enum-told2.given.1, held m.before) c.holds-texts2.ensures
+    rw (sym c.family-family.ensures ∙ c.in-Pair.is, held c.before.before.before) c.holds_texts-in-Pair.ensures
 
-returns-4 : tie.Need-returns-4
-returns-4 c = let m = c.before.before in rw (sym m.family.ensures ∙ c.enum-told3.given.1)
+returns-4 : tie.Need-returns-in-Copy
+returns-4 c = rw (sym c.family-family.ensures ∙ c.in-Copy.is)
 
-returns-5 : tie.Need-returns-5
+returns-5 : tie.Need-returns-in-Pool
 returns-5 c =
-    let t = c.before in
-    let m = t.before.before in
-    rw (sym m.family.ensures ∙ t.enum-told4.given.1, held m.before) c.holds-texts3.ensures
+    rw (sym c.family-family.ensures ∙ c.in-Pool.is, held c.before.before.before) c.holds_texts-in-Pool.ensures
 
 pub joins_texts_spec : {M : Type 1} → statement M
 joins_texts_spec =

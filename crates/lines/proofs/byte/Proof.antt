@@ -7,26 +7,26 @@ use native.Mathlib.Omega.{arith}
 use Rattle.lines.proofs.byte.Statement.{statement}
 use Rattle.lines.proofs.byte.Tie as tie
 
-returns : tie.Need-returns
+returns : tie.Need-returns-in_default
 unfolding joined
-returns c = rw (sym c.before.before.hex-digit.ensures.0, c.enum_told.given.1)
+returns c = rw (sym c.hex_digit-first.ensures.0, c.in_default.is)
 
-returns-2 : tie.Need-returns-2
+returns-2 : tie.Need-returns-in_default-second
 unfolding joined
-returns-2 c = rw (sym c.before.before.before.before.before.before.hex-digit.ensures.0, c.before.before.before.before.first.given.1, sym c.before.before.hex-digit2.ensures.0, c.enum-told2.given.1)
+returns-2 c = rw (sym c.hex_digit-first.ensures.0, c.in-Is.is, sym c.hex_digit-second.ensures.0, c.in_default-second.is)
 
-mul-t7 : tie.Need-overflow-mul-t7
-mul-t7 c = omega (arith, subst (Below 16) c.before.before.before.before.before.first.given.1 c.before.before.before.before.before.before.before.hex-digit.ensures.1)
+mul-t7 : tie.Need-overflow_mul-result
+mul-t7 c = omega (arith, subst (Below 16) c.in-Is.is c.hex_digit-first.ensures.1)
 
-add-t8 : tie.Need-overflow-add-t8
+add-t8 : tie.Need-overflow_add-result
 add-t8 c =
-    let high = subst (Below 16) c.before.before.before.before.before.first.given.1 c.before.before.before.before.before.before.before.hex-digit.ensures.1 in
-    let low = subst (Below 16) c.before.second.given.1 c.before.before.before.hex-digit2.ensures.1 in
+    let high = subst (Below 16) c.in-Is.is c.hex_digit-first.ensures.1 in
+    let low = subst (Below 16) c.in-Is-second.is c.hex_digit-second.ensures.1 in
     omega arith
 
-returns-3 : tie.Need-returns-3
+returns-3 : tie.Need-returns
 unfolding joined
-returns-3 c = rw (sym c.before.before.before.before.before.before.before.hex-digit.ensures.0, c.before.before.before.before.before.first.given.1, sym c.before.before.before.hex-digit2.ensures.0, c.before.second.given.1)
+returns-3 c = rw (sym c.hex_digit-first.ensures.0, c.in-Is.is, sym c.hex_digit-second.ensures.0, c.in-Is-second.is)
 
 pub byte_spec : {M : Type 1} → statement M
 byte_spec =

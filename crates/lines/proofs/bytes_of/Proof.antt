@@ -10,19 +10,19 @@ use borrow.Author.Rules.{rules}
 use Rattle.lines.proofs.bytes_of.Statement.{statement}
 use Rattle.lines.proofs.bytes_of.Tie as tie
 
-returns : tie.Need-returns
-returns c = (none_of (field_none c.before.before.before.args.s.now c.if1.true), tt)
+returns : tie.Need-returns-then-s-eq0
+returns c = (none_of (field_none c.args.s.now c.if-s-eq0.true), tt)
 
-returns-2 : tie.Need-returns-2
-returns-2 c = (([], field_dash c.before.before.before.before.before.before.args.s.now c.before.before.if2.true c.if3.true, refl, refl), search rules)
+returns-2 : tie.Need-returns-then-s-eq-NO_BYTES
+returns-2 c = (([], field_dash c.args.s.now c.if-s-eq1.true c.if-s-eq-NO_BYTES.true, refl, refl), search rules)
 
-returns-3 : tie.Need-returns-3
-returns-3 c = (none_of (field_other c.before.before.before.before.before.before.args.s.now c.before.before.if2.true c.if3.false), tt)
+returns-3 : tie.Need-returns-then-s-eq1
+returns-3 c = (none_of (field_other c.args.s.now c.if-s-eq1.true c.if-s-eq-NO_BYTES.false), tt)
 
-returns-4 : tie.Need-returns-4
+returns-4 : tie.Need-returns
 returns-4 c =
-    let same = field_pairs c.before.before.before.before.before.before.before.before.args.s.now c.before.before.before.before.before.if1.false c.before.before.before.before.if2.false in
-    (subst (λ (o : Option (List ℕ)). Puts c.before.before.pairs.result o c.before.before.before.before.before.before.before.before.args.out.now c.before.before.pairs.new.1.0) same c.before.before.pairs.ensures.0, c.before.before.pairs.ensures.1)
+    let same = field_pairs c.args.s.now c.if-s-eq0.false c.if-s-eq1.false in
+    (subst (λ (o : Option (List ℕ)). Puts c.pairs.result o c.args.out.now c.pairs.new.out) same c.pairs.ensures.0, c.pairs.ensures.1)
 
 pub bytes_of_spec : {M : Type 1} → statement M
 bytes_of_spec =

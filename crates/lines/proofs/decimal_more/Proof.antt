@@ -8,24 +8,24 @@ use native.Mathlib.Omega.{arith}
 use Rattle.lines.proofs.decimal_more.Statement.{statement}
 use Rattle.lines.proofs.decimal_more.Tie as tie
 
-returns : tie.Need-returns
+returns : tie.Need-returns-then-b-lt48
 unfolding number_more
-returns c = rw (lt-leb 48 c.before.args.b (omega arith))
+returns c = rw (lt-leb 48 c.args.b (omega arith))
 
-returns-2 : tie.Need-returns-2
+returns-2 : tie.Need-returns-then-b-gt57
 unfolding number_more
-returns-2 c = rw (le-leb 48 c.before.before.args.b (omega arith), lt-leb c.before.before.args.b 57 (omega arith))
+returns-2 c = rw (le-leb 48 c.args.b (omega arith), lt-leb c.args.b 57 (omega arith))
 
-returns-3 : tie.Need-returns-3
+returns-3 : tie.Need-returns-then-more-gt4294967295
 unfolding number_more
 returns-3 c =
-    let a = c.before.before.before.args in
+    let a = c.args in
     rw (le-leb 48 a.b (omega arith), le-leb a.b 57 (omega arith), le-ltb (a.value * 10 + (a.b - 48)) (2 ^ 32) (omega arith))
 
-returns-4 : tie.Need-returns-4
+returns-4 : tie.Need-returns
 unfolding number_more
 returns-4 c =
-    let a = c.before.before.before.args in
+    let a = c.args in
     rw (le-leb 48 a.b (omega arith), le-leb a.b 57 (omega arith), lt-ltb (a.value * 10 + (a.b - 48)) (2 ^ 32) (omega arith))
 
 pub decimal_more_spec : {M : Type 1} → statement M

@@ -13,39 +13,39 @@ use native.Mathlib.Omega.{arith}
 use Rattle.lines.proofs.field.Statement.{statement}
 use Rattle.lines.proofs.field.Tie as tie
 
-abbrev invariant-loop : tie.invariant-loop
+abbrev invariant-loop : tie.invariant-loop-i
 invariant-loop s k at₀ i₀ at i = (at ≤ length s) × (i ≤ k) × (field_of (k - i) (drop at s) ≡ field_of k s)
 
-abbrev decreases-loop : tie.decreases-loop
+abbrev decreases-loop : tie.decreases-loop-i
 decreases-loop s k at₀ i₀ at i = k - i
 
-loop-holds : tie.Need-loop-init invariant-loop decreases-loop
-loop-holds c = (search rules, search rules, ap (λ (n : ℕ). field_of n c.before.args.s.now) (sub-zero c.before.args.k))
+loop-holds : tie.Need-loop-i-init invariant-loop decreases-loop
+loop-holds c = (search rules, search rules, ap (λ (n : ℕ). field_of n c.args.s.now) (sub-zero c.args.k))
 
-returns : tie.Need-returns invariant-loop decreases-loop
+returns : tie.Need-returns-then-end-s invariant-loop decreases-loop
 returns c =
-    let l = c.before.before.before.before.loop in
-    let a = c.before.before.before.before.before.before.args in
+    let l = c.loop-i in
+    let a = c.args in
     let s = a.s.now in
     let n : a.k - l.i ≡ suc (a.k - (l.i + 1)) = omega arith in
-    let end : length s ≤ c.before.before.find.result = omega arith in
-    let none : [] ≡ field_of a.k s = sym (fields_past (a.k - (l.i + 1)) (c.before.before.find.result + 1) s (omega arith)) ∙ sym (field_next c.before.before.find.ensures refl n) ∙ l.invariant.2 in
+    let end : length s ≤ c.find-end.result = omega arith in
+    let none : [] ≡ field_of a.k s = sym (fields_past (a.k - (l.i + 1)) (c.find-end.result + 1) s (omega arith)) ∙ sym (field_next c.find-end.ensures refl n) ∙ l.invariant.2 in
     rw (drop_of_length-le s end, take-nil) none
 
-loop-again : tie.Need-loop-preserved invariant-loop decreases-loop
+loop-again : tie.Need-loop-i-preserved invariant-loop decreases-loop
 loop-again c =
-    let l = c.before.before.before.loop in
-    let a = c.before.before.before.before.before.args in
+    let l = c.loop-i in
+    let a = c.args in
     let n : a.k - l.i ≡ suc (a.k - (l.i + 1)) = omega arith in
-    (omega arith, omega arith, sym (field_next c.before.find.ensures refl n) ∙ l.invariant.2)
+    (omega arith, omega arith, sym (field_next c.find-end.ensures refl n) ∙ l.invariant.2)
 
-returns-2 : tie.Need-returns-2 invariant-loop decreases-loop
+returns-2 : tie.Need-returns invariant-loop decreases-loop
 unfolding field_of
 returns-2 c =
-    let l = c.before.before.before.loop in
-    let a = c.before.before.before.before.before.args in
+    let l = c.loop-i in
+    let a = c.args in
     let last : 0 ≡ a.k - l.i = omega arith in
-    found_before c.before.find2.ensures ∙ ap (λ (n : ℕ). field_of n (drop l.at a.s.now)) last ∙ l.invariant.2
+    found_before c.find-end-2.ensures ∙ ap (λ (n : ℕ). field_of n (drop l.at a.s.now)) last ∙ l.invariant.2
 
 pub field_spec : {M : Type 1} → statement M
 field_spec =

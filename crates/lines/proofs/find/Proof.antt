@@ -10,32 +10,32 @@ use native.Mathlib.Omega.{arith}
 use Rattle.lines.proofs.find.Statement.{statement}
 use Rattle.lines.proofs.find.Tie as tie
 
-abbrev invariant-loop : tie.invariant-loop
+abbrev invariant-loop : tie.invariant-loop-i
 invariant-loop s from b i₀ i = (from ≤ i) × (i ≤ length s) × (i + length (before b (drop i s)) ≡ from + length (before b (drop from s)))
 
-abbrev decreases-loop : tie.decreases-loop
+abbrev decreases-loop : tie.decreases-loop-i
 decreases-loop s from b i₀ i = length s - i
 
-loop-holds : tie.Need-loop-init invariant-loop decreases-loop
+loop-holds : tie.Need-loop-i-init invariant-loop decreases-loop
 loop-holds c = (search rules, search rules, refl)
 
-returns : tie.Need-returns invariant-loop decreases-loop
+returns : tie.Need-returns-then-s-i invariant-loop decreases-loop
 returns c =
-    let l = c.before.before.before.loop in
-    let a = c.before.before.before.before.args in
-    omega (arith, before_here a.b a.s.now l.i c.before.before.loop-test.true c.if1.true)
+    let l = c.loop-i in
+    let a = c.args in
+    omega (arith, before_here a.b a.s.now l.i c.loop-i-test.true c.if-s-i.true)
 
-loop-again : tie.Need-loop-preserved invariant-loop decreases-loop
+loop-again : tie.Need-loop-i-preserved invariant-loop decreases-loop
 loop-again c =
-    let l = c.before.before.before.loop in
-    let a = c.before.before.before.before.args in
-    omega (arith, before_on a.b a.s.now l.i c.before.before.loop-test.true c.if1.false)
+    let l = c.loop-i in
+    let a = c.args in
+    omega (arith, before_on a.b a.s.now l.i c.loop-i-test.true c.if-s-i.false)
 
-returns-2 : tie.Need-returns-2 invariant-loop decreases-loop
+returns-2 : tie.Need-returns invariant-loop decreases-loop
 returns-2 c =
-    let l = c.before.loop in
-    let a = c.before.before.args in
-    omega (arith, before_end a.b a.s.now l.i c.loop-test.false)
+    let l = c.loop-i in
+    let a = c.args in
+    omega (arith, before_end a.b a.s.now l.i c.loop-i-test.false)
 
 pub find_spec : {M : Type 1} → statement M
 find_spec =

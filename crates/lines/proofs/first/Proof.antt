@@ -7,11 +7,11 @@ use native.Mathlib.Omega.{arith}
 use Rattle.lines.proofs.first.Statement.{statement}
 use Rattle.lines.proofs.first.Tie as tie
 
-slice-aggregate-find : tie.Need-slice-aggregate-find
-slice-aggregate-find c = sym (length-take-le c.before.before.args.filled c.before.before.args.buf.now c.before.before.requires)
+slice-aggregate-find : tie.Need-slice_bounds-find-end
+slice-aggregate-find c = sym (length-take-le c.args.filled c.args.buf.now c.requires)
 
-returns-2 : tie.Need-returns-2
-returns-2 c = omega (arith, length-take-le c.before.before.before.before.args.filled c.before.before.before.before.args.buf.now c.before.before.before.before.requires)
+returns-2 : tie.Need-returns-else-to-filled
+returns-2 c = omega (arith, length-take-le c.args.filled c.args.buf.now c.requires)
 
 pub first_spec : {M : Type 1} → statement M
 first_spec = tie.close (tie.spec slice-aggregate-find (λ c κs. search rules) (λ c. search rules) (λ c. search rules) returns-2)

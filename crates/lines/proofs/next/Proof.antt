@@ -7,11 +7,11 @@ use native.Mathlib.Omega.{arith}
 use Rattle.lines.proofs.next.Statement.{statement}
 use Rattle.lines.proofs.next.Tie as tie
 
-slice-aggregate-find : tie.Need-slice-aggregate-find
-slice-aggregate-find c = sym (length-take-le c.before.before.args.w.end c.before.before.args.buf.now c.before.before.requires.1)
+slice-aggregate-find : tie.Need-slice_bounds-find-end-2
+slice-aggregate-find c = sym (length-take-le c.args.w.end c.args.buf.now c.requires.1)
 
-find-requires : tie.Need-find-requires
-find-requires c κs = omega (arith, length-take-le c.before.before.args.w.end c.before.before.args.buf.now c.before.before.requires.1)
+find-requires : tie.Need-find-to-requires
+find-requires c κs = omega (arith, length-take-le c.args.w.end c.args.buf.now c.requires.1)
 
 pub next_spec : {M : Type 1} → statement M
 next_spec =

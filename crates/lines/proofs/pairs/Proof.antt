@@ -10,44 +10,44 @@ use native.Mathlib.Omega.{arith}
 use Rattle.lines.proofs.pairs.Statement.{statement}
 use Rattle.lines.proofs.pairs.Tie as tie
 
-abbrev invariant-loop : tie.invariant-loop
+abbrev invariant-loop : tie.invariant-loop-i
 invariant-loop s out₀ n i₀ out i = (i ≤ n) × (length out ≡ length out₀) × Half s out₀ out i
 
-abbrev decreases-loop : tie.decreases-loop
+abbrev decreases-loop : tie.decreases-loop-i
 decreases-loop s out₀ n i₀ out i = n - i
 
-returns : tie.Need-returns invariant-loop decreases-loop
-returns c = ((λ vs e. absurd (omega (arith, bytes_length c.before.before.before.args.s.now vs e))), tt)
+returns : tie.Need-returns-then-s-eq1 invariant-loop decreases-loop
+returns c = ((λ vs e. absurd (omega (arith, bytes_length c.args.s.now vs e))), tt)
 
-returns-2 : tie.Need-returns-2 invariant-loop decreases-loop
-returns-2 c = ((λ vs e. omega (arith, bytes_length c.before.before.before.before.args.s.now vs e)), tt)
+returns-2 : tie.Need-returns-then-out-n invariant-loop decreases-loop
+returns-2 c = ((λ vs e. omega (arith, bytes_length c.args.s.now vs e)), tt)
 
-loop-holds : tie.Need-loop-init invariant-loop decreases-loop
-loop-holds c = (search rules, refl, half_none c.before.before.before.before.args.s.now c.before.before.before.before.args.out.now)
+loop-holds : tie.Need-loop-i-init invariant-loop decreases-loop
+loop-holds c = (search rules, refl, half_none c.args.s.now c.args.out.now)
 
-same_length : tie.Need-same-length invariant-loop decreases-loop
-same_length c = c.before.before.before.before.before.before.loop.invariant.1
+same_length : tie.Need-shape_of-out-in_default invariant-loop decreases-loop
+same_length c = c.loop-i.invariant.1
 
-returns-3 : tie.Need-returns-3 invariant-loop decreases-loop
-returns-3 c = (none_of (half_not c.before.before.before.before.before.before.loop.invariant.2 (omega arith) c.before.before.byte.ensures c.enum_told.given.1), tt)
+returns-3 : tie.Need-returns-in_default invariant-loop decreases-loop
+returns-3 c = (none_of (half_not c.loop-i.invariant.2 (omega arith) c.byte-b.ensures c.in_default.is), tt)
 
-loop-again : tie.Need-loop-preserved invariant-loop decreases-loop
+loop-again : tie.Need-loop-i-preserved invariant-loop decreases-loop
 loop-again c =
-    let l = c.before.before.before.before.before.before.before.loop in (
+    let l = c.loop-i in (
       omega arith,
       simp length-set l.invariant.1,
-      half_more l.invariant.2 (omega arith) c.before.before.before.byte.ensures _ c.before.b.given.1 (omega arith),
+      half_more l.invariant.2 (omega arith) c.byte-b.ensures _ c.in-Is.is (omega arith),
     )
 
-same-length-2 : tie.Need-same-length-2 invariant-loop decreases-loop
-same-length-2 c = c.before.loop.invariant.1
+same-length-2 : tie.Need-shape_of-out invariant-loop decreases-loop
+same-length-2 c = c.loop-i.invariant.1
 
-returns-4 : tie.Need-returns-4 invariant-loop decreases-loop
+returns-4 : tie.Need-returns invariant-loop decreases-loop
 returns-4 c =
-    let l = c.before.loop in
+    let l = c.loop-i in
     let h = l.invariant.2 in
-    let all : l.i ≡ length c.before.before.before.before.before.before.args.s.now / 2 = omega arith in
-    ((h.done, half_done h (omega arith), h.count ∙ all, h.held ∙ ap (λ (k : ℕ). h.done ++ drop k c.before.before.before.before.before.before.args.out.now) all), omega arith)
+    let all : l.i ≡ length c.args.s.now / 2 = omega arith in
+    ((h.done, half_done h (omega arith), h.count ∙ all, h.held ∙ ap (λ (k : ℕ). h.done ++ drop k c.args.out.now) all), omega arith)
 
 pub pairs_spec : {M : Type 1} → statement M
 pairs_spec =

@@ -10,32 +10,29 @@ use Rattle.list_natures.proofs.Joined.{no_join, join, joins_both}
 use Rattle.list_natures.proofs.joined_texts.Statement.{statement}
 use Rattle.list_natures.proofs.joined_texts.Tie as tie
 
-returns : tie.Need-returns
+returns : tie.Need-returns-then-not-joins
 returns c =
-    let s = c.before.before.before.before.before.before in
-    let a = s.args in
+    let a = c.args in
     let F = form_of a.f in
-    let without = sym c.before.joins.ensures ∙ not-true c.before.joins.result c.if1.true in
-    let j = s.requires.0 in
-    let e = no_join F a.left.now a.right.now j.lefts.is-text j.rights.is-text a.c a.data-type a.columns without in
+    let without = sym c.joins.ensures ∙ c.if-not-joins.true in
+    let j = c.requires.0 in
+    let e = no_join F a.left.now a.right.now j.lefts.is-text j.rights.is-text a.c a.data_type a.columns without in
     (ap (in_writing F) (sym e), tt)
 
-texts-together-requires : tie.Need-texts-together-requires
+texts-together-requires : tie.Need-texts_together-requires
 texts-together-requires c κs =
-    let s = c.before.before.before.before.before.before.before.before.before.before.before in
-    let ready = s.requires.1 in
-    let has = sym c.before.before.before.before.before.before.joins.ensures ∙ not-false c.before.before.before.before.before.before.joins.result c.before.before.before.before.before.if1.false in
-    ((s.requires.0, ready.some-column, ready.within), s.requires.2 has)
+    let ready = c.requires.1 in
+    let has = sym c.joins.ensures ∙ c.if-not-joins.false in
+    ((c.requires.0, ready.some_column, ready.within), c.requires.2 has)
 
-returns-2 : tie.Need-returns-2
+returns-2 : tie.Need-returns
 returns-2 c =
-    let s = c.before.before.before.before.before.before.before.before.before.before.before.before.before.before.before.before.before.before.before in
-    let a = s.args in
+    let a = c.args in
     let F = form_of a.f in
-    let call = c.before.before.before.before.before.before.before.texts-together.ensures in
-    let has = sym c.before.before.before.before.before.before.before.before.before.before.before.before.before.before.joins.ensures ∙ not-false c.before.before.before.before.before.before.before.before.before.before.before.before.before.before.joins.result c.before.before.before.before.before.before.before.before.before.before.before.before.before.if1.false in
-    let j = s.requires.0 in
-    let e = join F a.left.now a.right.now j.lefts.is-text j.rights.is-text a.c a.data-type a.columns has in
+    let call = c.texts_together.ensures in
+    let has = sym c.joins.ensures ∙ c.if-not-joins.false in
+    let j = c.requires.0 in
+    let e = join F a.left.now a.right.now j.lefts.is-text j.rights.is-text a.c a.data_type a.columns has in
     (call.0 ∙ ap (in_writing F) (sym e), rw (texts_room_lem (family_of a.c) F a.left.now a.right.now (joins_both F a.left.now a.right.now j a.c has)) call.1)
 
 pub joined_texts_spec : {M : Type 1} → statement M

@@ -14,56 +14,54 @@ use Rattle.list_natures.proofs.Listing.{alone_fails, other_alone, alone_ruled}
 use Rattle.list_natures.proofs.propagate_unary_categorical_nature.Statement.{statement}
 use Rattle.list_natures.proofs.propagate_unary_categorical_nature.Tie as tie
 
-nature-of-requires : tie.Need-nature-of-requires
-nature-of-requires c κs = stands c.before.before.before.before.requires.0.0.read
+nature-of-requires : tie.Need-nature_of-x-requires
+nature-of-requires c κs = stands c.requires.0.0.read
 
-sizes-at-requires : tie.Need-sizes-at-requires
-sizes-at-requires c κs = stands c.before.before.before.before.before.requires.0.0.read
+sizes-at-requires : tie.Need-sizes_at-sizes-requires
+sizes-at-requires c κs = stands c.requires.0.0.read
 
 -- the code is that of the nature
-code : (c : tie.After-lists-code) → let a = c.before.before.before.before.before.before.before.args in c.lists-code.result ≡ first_failing (list_checks a.columns (nature_in (form_of a.f) a.s.now))
-code c = code_is c.before.before.before.before.before.before.before.requires.0.0 c.before.before.before.before.before.before.before.args.columns c.before.sizes-at.ensures.lists (rw c.before.before.nature-of.ensures at c.lists-code.ensures)
+code : (c : tie.After-lists_code-k) → let a = c.args in c.lists_code-k.result ≡ first_failing (list_checks a.columns (nature_in (form_of a.f) a.s.now))
+code c = code_is c.requires.0.0 c.args.columns c.sizes_at-sizes.ensures.lists (rw c.nature_of-x.ensures at c.lists_code-k.ensures)
 
-returns : tie.Need-returns
+returns : tie.Need-returns-then-k-ne0
 returns c =
-    let a = c.before.before.before.before.before.before.before.before.args in
+    let a = c.args in
     let F = form_of a.f in
-    let e = alone_fails F.category_limit a.c a.data-type a.columns F a.s.now (code c.before) c.if1.true in
+    let e = alone_fails F.category_limit a.c a.data_type a.columns F a.s.now (code c.before) c.if-k-ne0.true in
     (ap (in_writing F) (sym e), tt)
 
 -- 19, 20 and 29 have passed
-none : (c : tie.Else1) → let a = c.before.before.before.before.before.before.before.before.args in first_failing (list_checks a.columns (nature_in (form_of a.f) a.s.now)) ≡ 0
-none c = sym (code c.before) ∙ c.if1.false
+none : (c : tie.Else-k-ne0) → let a = c.args in first_failing (list_checks a.columns (nature_in (form_of a.f) a.s.now)) ≡ 0
+none c = sym (code c.before) ∙ c.if-k-ne0.false
 
-passes : (c : tie.Else1) → let a = c.before.before.before.before.before.before.before.before.args in Fine (form_of a.f) a.s.now
-passes c = fine c.before.before.before.before.before.before.before.before.requires.0.0 c.before.before.before.before.before.before.before.before.args.columns (none c)
+passes : (c : tie.Else-k-ne0) → let a = c.args in Fine (form_of a.f) a.s.now
+passes c = fine c.requires.0.0 c.args.columns (none c)
 
-whole : (c : tie.Else2) → let a = c.before.before.before.before.before.before.before.before.before.args in byte_at (form_of a.f) nature_at a.s.now ≡ 3
-whole c = sym c.before.before.before.before.nature-of.ensures ∙ c.if2.false
+whole : (c : tie.Else-x-ne-WHOLE_LISTS) → let a = c.args in byte_at (form_of a.f) nature_at a.s.now ≡ 3
+whole c = sym c.nature_of-x.ensures ∙ c.if-x-ne-WHOLE_LISTS.false
 
-returns-2 : tie.Need-returns-2
+returns-2 : tie.Need-returns-then-x-ne-WHOLE_LISTS
 returns-2 c =
-    let a = c.before.before.before.before.before.before.before.before.before.args in
+    let a = c.args in
     let F = form_of a.f in
-    let e = other_alone F.category_limit a.c a.data-type a.columns F a.s.now (none c.before) (passes c.before) (λ e. c.if2.true (c.before.before.before.before.nature-of.ensures ∙ e)) in
+    let e = other_alone F.category_limit a.c a.data_type a.columns F a.s.now (none c.before) (passes c.before) (λ e. c.if-x-ne-WHOLE_LISTS.true (c.nature_of-x.ensures ∙ e)) in
     (ap (in_writing F) (sym e), tt)
 
-lists-alone-requires : tie.Need-lists-alone-requires
+lists-alone-requires : tie.Need-lists_alone-requires
 lists-alone-requires c κs =
-    let b = c.before.before.before.before.before.before.before.before.before.before.before.before.before.before in
-    let ready = b.requires.0.1 in
+    let ready = c.requires.0.1 in
     let l = fine_listed (passes c.before.before.before.before.before.before) in
-    ((l, ready.some-column, ready.within, b.requires.0.2), used (alone b.requires.0.2 l (whole c.before.before.before.before.before)) b.requires.1)
+    ((l, ready.some_column, ready.within, c.requires.0.2), used (alone c.requires.0.2 l (whole c.before.before.before.before.before)) c.requires.1)
 
-returns-3 : tie.Need-returns-3
+returns-3 : tie.Need-returns
 returns-3 c =
-    let b = c.before.before.before.before.before.before.before.before.before.before.before.before.before.before.before.before.before.before.before.before.before.before.before in
-    let a = b.args in
+    let a = c.args in
     let F = form_of a.f in
     let is = whole c.before.before.before.before.before.before.before.before.before.before.before.before.before.before in
-    let call = c.before.before.before.before.before.before.before.before.lists-alone.ensures in
-    let e = alone_ruled F.category_limit a.c a.data-type a.columns F a.s.now (none c.before.before.before.before.before.before.before.before.before.before.before.before.before.before.before) is (ap has_rule b.requires.0.2) in
-    (call.0 ∙ ap (in_writing F) (sym e), rw (lists_room_lem (family_of a.c) F a.s.now a.s.now (alone b.requires.0.2 (fine_listed (passes c.before.before.before.before.before.before.before.before.before.before.before.before.before.before.before)) is)) call.1)
+    let call = c.lists_alone.ensures in
+    let e = alone_ruled F.category_limit a.c a.data_type a.columns F a.s.now (none c.before.before.before.before.before.before.before.before.before.before.before.before.before.before.before) is (ap has_rule c.requires.0.2) in
+    (call.0 ∙ ap (in_writing F) (sym e), rw (lists_room_lem (family_of a.c) F a.s.now a.s.now (alone c.requires.0.2 (fine_listed (passes c.before.before.before.before.before.before.before.before.before.before.before.before.before.before.before)) is)) call.1)
 
 pub propagate_unary_categorical_nature_spec : {M : Type 1} → statement M
 propagate_unary_categorical_nature_spec =

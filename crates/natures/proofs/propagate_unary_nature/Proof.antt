@@ -15,64 +15,56 @@ use Rattle.natures.proofs.Sorted.{alone_absent, alone_range, alone_lists}
 use Rattle.natures.proofs.propagate_unary_nature.Statement.{statement}
 use Rattle.natures.proofs.propagate_unary_nature.Tie as tie
 
-nature-of-requires : tie.Need-nature-of-requires
-nature-of-requires c κs = stands c.before.before.before.before.requires.0.0
+nature-of-requires : tie.Need-nature_of-x-requires
+nature-of-requires c κs = stands c.requires.0.0
 
-returns : tie.Need-returns
+returns : tie.Need-returns-then-x-eq-ABSENT_NATURE
 returns c =
-    let b = c.before.before.before.before.before.before.before in
-    let a = b.args in
+    let a = c.args in
     let F = form_of a.f in
     let s = a.s.now in
-    let e = alone_absent F.category_limit a.c a.data-type a.columns (nature_in F s) (number_of F s b.requires.0.0 ∙ sym c.before.before.nature-of.ensures ∙ c.before.if1.true) in
-    let n = c.nothing-stated.ensures (arrays_room (family_of a.c) F a.s.now a.s.now) a.first.now a.second.now in
+    let e = alone_absent F.category_limit a.c a.data_type a.columns (nature_in F s) (number_of F s c.requires.0.0 ∙ sym c.nature_of-x.ensures ∙ c.if-x-eq-ABSENT_NATURE.true) in
+    let n = c.nothing_stated.ensures (arrays_room (family_of a.c) F a.s.now a.s.now) a.first.now a.second.now in
     (n.0 ∙ ap (in_writing F) (sym e), n.1)
 
-range-pair-requires : tie.Need-range-pair-requires
+range-pair-requires : tie.Need-range_pair-requires
 range-pair-requires c κs =
-    let b = c.before.before.before.before.before.before.before.before.before.before in
-    let ready = b.requires.0.1 in
-    let range = rw c.before.before.before.before.before.nature-of.ensures at (sym c.before.before.before.is-range.ensures ∙ c.before.before.if2.true) in
-    let room = range_room ready (laid b.args.f) in
-    (b.requires.0.0.sizes, range, b.requires.0.0.sizes, range, ready.within, room.0, room.1)
+    let ready = c.requires.0.1 in
+    let range = rw c.nature_of-x.ensures at (sym c.is_range.ensures ∙ c.if-is_range.true) in
+    let room = range_room ready (laid c.args.f) in
+    (c.requires.0.0.sizes, range, c.requires.0.0.sizes, range, ready.within, room.0, room.1)
 
-returns-2 : tie.Need-returns-2
+returns-2 : tie.Need-returns-then-is_range
 returns-2 c =
-    let d = c.before.before.before.before in
-    let b = d.before.before.before.before.before.before.before.before.before.before.before in
-    let a = b.args in
+    let a = c.args in
     let F = form_of a.f in
-    let k = d.before.before.before.before.before.before.nature-of.ensures in
-    let range = rw k at (sym d.before.before.before.before.is-range.ensures ∙ d.before.before.before.if2.true) in
-    let e = alone_range F.category_limit a.c a.data-type a.columns (ap has_rule b.requires.0.2) F a.s.now range in
-    ((rw k at d.range-pair.ensures.0) ∙ ap (in_writing F) (sym e), wider F _ _ (ends_room_lem (laid a.f) (family_of a.c) a.s.now a.s.now) d.range-pair.result d.range-pair.ensures.1)
+    let k = c.nature_of-x.ensures in
+    let range = rw k at (sym c.is_range.ensures ∙ c.if-is_range.true) in
+    let e = alone_range F.category_limit a.c a.data_type a.columns (ap has_rule c.requires.0.2) F a.s.now range in
+    ((rw k at c.range_pair.ensures.0) ∙ ap (in_writing F) (sym e), wider F _ _ (ends_room_lem (laid a.f) (family_of a.c) a.s.now a.s.now) c.range_pair.result c.range_pair.ensures.1)
 
 -- neither absent nor a range
-listing : (c : tie.Else2) → Lists (form_of c.before.before.before.before.before.before.before.before.args.f) c.before.before.before.before.before.before.before.before.args.s.now
+listing : (c : tie.Else-is_range) → Lists (form_of c.args.f) c.args.s.now
 listing c =
-    let z = c.before.before.before in
     record {
-      read = c.before.before.before.before.before.before.before.before.requires.0.0;
-      present = rw z.nature-of.ensures at (ne_eqb z.nature-of.result 0 c.before.before.if1.false);
-      no_range = rw z.nature-of.ensures at (sym c.before.is-range.ensures ∙ c.if2.false);
+      read = c.requires.0.0;
+      present = rw c.nature_of-x.ensures at (ne_eqb c.nature_of-x.result 0 c.if-x-eq-ABSENT_NATURE.false);
+      no_range = rw c.nature_of-x.ensures at (sym c.is_range.ensures ∙ c.if-is_range.false);
     }
 
-propagate-unary-categorical-nature-requires : tie.Need-propagate-unary-categorical-nature-requires
+propagate-unary-categorical-nature-requires : tie.Need-propagate_unary_categorical_nature-requires
 propagate-unary-categorical-nature-requires c κs =
-    let b = c.before.before.before.before.before.before.before.before.before.before.before.before.before in
-    ((listing c.before.before.before.before.before, b.requires.0.1, b.requires.0.2), b.requires.1)
+    ((listing c.before.before.before.before.before, c.requires.0.1, c.requires.0.2), c.requires.1)
 
-returns-3 : tie.Need-returns-3
+returns-3 : tie.Need-returns
 returns-3 c =
-    let d = c.before.before.before.before.before.before.before.before in
-    let w = d.before.before.before.before.before.before in
-    let a = w.before.before.before.before.before.before.before.before.args in
+    let a = c.args in
     let F = form_of a.f in
     let s = a.s.now in
-    let l = listing w in
+    let l = listing c.before.before.before.before.before.before.before.before.before.before.before.before.before.before in
     let p = number_of F s l.read in
-    let e = alone_lists F.category_limit a.c a.data-type a.columns (nature_in F s) (λ z. w.before.before.if1.false (w.before.before.before.nature-of.ensures ∙ sym p ∙ z)) (ap is_range_nature p ∙ l.no-range) in
-    (d.propagate-unary-categorical-nature.ensures.0 ∙ ap (in_writing F) (sym e), d.propagate-unary-categorical-nature.ensures.1)
+    let e = alone_lists F.category_limit a.c a.data_type a.columns (nature_in F s) (λ z. c.if-x-eq-ABSENT_NATURE.false (c.nature_of-x.ensures ∙ sym p ∙ z)) (ap is_range_nature p ∙ l.no_range) in
+    (c.propagate_unary_categorical_nature.ensures.0 ∙ ap (in_writing F) (sym e), c.propagate_unary_categorical_nature.ensures.1)
 
 pub propagate_unary_nature_spec : {M : Type 1} → statement M
 propagate_unary_nature_spec =

@@ -9,43 +9,43 @@ use Rattle.numbers.proofs.Laws.{fits_answer, leaves_answer}
 use Rattle.numbers.proofs.checked_add.Statement.{statement}
 use Rattle.numbers.proofs.checked_add.Tie as tie
 
-sub-if2 : tie.Need-overflow-sub-if2
-sub-if2 c = room_up _ _ (again c.before.ranges.b) c.if1.true (omega arith)
+sub-if2 : tie.Need-overflow_sub-b
+sub-if2 c = room_up _ _ (again c.ranges.b) c.if-b-ge0.true (omega arith)
 
-sub-if3 : tie.Need-overflow-sub-if3
-sub-if3 c = room_down _ _ (again c.before.ranges.b) c.if1.false (omega arith)
+sub-if3 : tie.Need-overflow_sub-b-else-b-ge0
+sub-if3 c = room_down _ _ (again c.ranges.b) c.if-b-ge0.false (omega arith)
 
-add-t8 : tie.Need-overflow-add-t8
+add-t8 : tie.Need-overflow_add-result
 add-t8 c =
-    let f = c.before.before.ranges in
-    sum_up _ _ _ _ (again f.a) c.before.if1.true (to_z-of_z (sub-if2 c.before)) c.if2.true (omega arith)
+    let f = c.ranges in
+    sum_up _ _ _ _ (again f.a) c.if-b-ge0.true (to_z-of_z (sub-if2 c.before)) c.if-a-b.true (omega arith)
 
-add-t12 : tie.Need-overflow-add-t12
+add-t12 : tie.Need-overflow_add-result-then-b-a
 add-t12 c =
-    let f = c.before.before.ranges in
-    sum_down _ _ _ _ (again f.a) c.before.if1.false (to_z-of_z (sub-if3 c.before)) c.if3.true (omega arith)
+    let f = c.ranges in
+    sum_down _ _ _ _ (again f.a) c.if-b-ge0.false (to_z-of_z (sub-if3 c.before)) c.if-b-a.true (omega arith)
 
-returns : tie.Need-returns
+returns : tie.Need-returns-then-a-b
 returns c =
-    let f = c.before.before.ranges in
+    let f = c.ranges in
     fits_answer (ap₂ ◌+ℤ◌ (to_z-of_z f.a) (to_z-of_z f.b)) (add-t8 c)
 
-returns-2 : tie.Need-returns-2
+returns-2 : tie.Need-returns-else-a-b
 returns-2 c =
-    let f = c.before.before.ranges in
+    let f = c.ranges in
     leaves_answer (ap₂ ◌+ℤ◌ (to_z-of_z f.a) (to_z-of_z f.b))
-    (sum_over _ (back f.a) (back f.b) _ (to_z-of_z (sub-if2 c.before)) c.if2.false (omega arith))
+    (sum_over _ (back f.a) (back f.b) _ (to_z-of_z (sub-if2 c.before)) c.if-a-b.false (omega arith))
 
-returns-3 : tie.Need-returns-3
+returns-3 : tie.Need-returns-then-b-a
 returns-3 c =
-    let f = c.before.before.ranges in
+    let f = c.ranges in
     fits_answer (ap₂ ◌+ℤ◌ (to_z-of_z f.a) (to_z-of_z f.b)) (add-t12 c)
 
-returns-4 : tie.Need-returns-4
+returns-4 : tie.Need-returns-else-b-a
 returns-4 c =
-    let f = c.before.before.ranges in
+    let f = c.ranges in
     leaves_answer (ap₂ ◌+ℤ◌ (to_z-of_z f.a) (to_z-of_z f.b))
-    (sum_under _ (back f.a) (back f.b) _ (to_z-of_z (sub-if3 c.before)) c.if3.false (omega arith))
+    (sum_under _ (back f.a) (back f.b) _ (to_z-of_z (sub-if3 c.before)) c.if-b-a.false (omega arith))
 
 pub checked_add_spec : {M : Type 1} → statement M
 checked_add_spec =

@@ -10,26 +10,23 @@ use Rattle.numbers.proofs.Laws.{quotient_none, quotient_some, quotient_lesser}
 use Rattle.numbers.proofs.checked_div.Statement.{statement}
 use Rattle.numbers.proofs.checked_div.Tie as tie
 
-returns : tie.Need-returns
+returns : tie.Need-returns-then-m-n
 returns c =
-    let s = c.before.before.before in
-    let m = c.before.before.magnitude.ensures ∙ ap nat_abs (to_z-of_z s.ranges.a) in
-    let n = c.before.magnitude2.ensures ∙ ap nat_abs (to_z-of_z s.ranges.b) in
-    sym (quotient_lesser s.args.a s.args.b (omega (arith, m, n, c.if1.true)))
+    let m = c.magnitude-m.ensures ∙ ap nat_abs (to_z-of_z c.ranges.a) in
+    let n = c.magnitude-n.ensures ∙ ap nat_abs (to_z-of_z c.ranges.b) in
+    sym (quotient_lesser c.args.a c.args.b (omega (arith, m, n, c.if-m-n.true)))
 
-returns-2 : tie.Need-returns-2
+returns-2 : tie.Need-returns-then-n-eq0
 returns-2 c =
-    let s = c.before.before.before.before in
-    sym (quotient_none s.args.a s.args.b (ap nat_abs (sym (to_z-of_z s.ranges.b)) ∙ sym c.before.before.magnitude2.ensures ∙ c.if2.true))
+    sym (quotient_none c.args.a c.args.b (ap nat_abs (sym (to_z-of_z c.ranges.b)) ∙ sym c.magnitude-n.ensures ∙ c.if-n-eq0.true))
 
-returns-3 : tie.Need-returns-3
+returns-3 : tie.Need-returns
 returns-3 c =
     let e = c.before.before in
-    let n = e.before.before.magnitude2.ensures in
-    let s = e.before.before.before.before in
-    c.with-sign.ensures
-    ∙ ap checked_of (quotient (to_z-of_z s.ranges.a) (to_z-of_z s.ranges.b) e.before.before.before.magnitude.ensures n c.before.signs-differ.ensures)
-    ∙ sym (quotient_some s.args.a s.args.b (λ z. e.if2.false (n ∙ ap nat_abs (to_z-of_z s.ranges.b) ∙ z)))
+    let n = c.magnitude-n.ensures in
+    c.with_sign.ensures
+    ∙ ap checked_of (quotient (to_z-of_z c.ranges.a) (to_z-of_z c.ranges.b) c.magnitude-m.ensures n c.signs_differ.ensures)
+    ∙ sym (quotient_some c.args.a c.args.b (λ z. c.if-n-eq0.false (n ∙ ap nat_abs (to_z-of_z c.ranges.b) ∙ z)))
 
 pub checked_div_spec : {M : Type 1} → statement M
 checked_div_spec =

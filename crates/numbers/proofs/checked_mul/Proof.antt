@@ -11,23 +11,23 @@ use Rattle.numbers.proofs.Laws.{fits_answer}
 use Rattle.numbers.proofs.checked_mul.Statement.{statement}
 use Rattle.numbers.proofs.checked_mul.Tie as tie
 
-mul-t6 : tie.Need-overflow-mul-t6
+mul-t6 : tie.Need-overflow_mul-result
 mul-t6 c =
-    let f = c.before.before.before.ranges in
-    let a = c.before.before.is-half in
-    let b = c.before.is-half2 in
-    let both = (and-eq-true_iff a.result b.result).0 c.if1.true in
+    let f = c.ranges in
+    let a = c.is_half in
+    let b = c.is_half-2 in
+    let both = (and-eq-true_iff a.result b.result).0 c.if-is_half.true in
     half_product (back f.a) (back f.b) (a.ensures both.0) (b.ensures both.1)
 
-returns : tie.Need-returns
+returns : tie.Need-returns-then-is_half
 returns c =
-    let f = c.before.before.before.ranges in
+    let f = c.ranges in
     fits_answer (ap₂ ◌*ℤ◌ (to_z-of_z f.a) (to_z-of_z f.b)) (mul-t6 c)
 
-returns-2 : tie.Need-returns-2
+returns-2 : tie.Need-returns
 returns-2 c =
-    let f = c.before.before.before.before.ranges in
-    c.long-mul.ensures ∙ ap checked_of (ap₂ ◌*ℤ◌ (to_z-of_z f.a) (to_z-of_z f.b))
+    let f = c.ranges in
+    c.long_mul.ensures ∙ ap checked_of (ap₂ ◌*ℤ◌ (to_z-of_z f.a) (to_z-of_z f.b))
 
 pub checked_mul_spec : {M : Type 1} → statement M
 checked_mul_spec =

@@ -8,14 +8,14 @@ use Rattle.numbers.proofs.Laws.{fits_answer, leaves_answer}
 use Rattle.numbers.proofs.checked_neg.Statement.{statement}
 use Rattle.numbers.proofs.checked_neg.Tie as tie
 
-sub-t4 : tie.Need-overflow-sub-t4
-sub-t4 c = neg_fits _ (again c.before.ranges.a) c.if1.true
+sub-t4 : tie.Need-overflow_sub-result
+sub-t4 c = neg_fits _ (again c.ranges.a) c.if-a-gt-LEAST.true
 
-returns : tie.Need-returns
-returns c = fits_answer (minus_is c.before.ranges.a) (sub-t4 c)
+returns : tie.Need-returns-then-a-gt-LEAST
+returns c = fits_answer (minus_is c.ranges.a) (sub-t4 c)
 
-returns-2 : tie.Need-returns-2
-returns-2 c = leaves_answer (ap neg_ℤ (to_z-of_z c.before.ranges.a)) (neg_out (back c.before.ranges.a) c.if1.false)
+returns-2 : tie.Need-returns-else-a-gt-LEAST
+returns-2 c = leaves_answer (ap neg_ℤ (to_z-of_z c.ranges.a)) (neg_out (back c.ranges.a) c.if-a-gt-LEAST.false)
 
 pub checked_neg_spec : {M : Type 1} → statement M
 checked_neg_spec = tie.close (tie.spec sub-t4 returns returns-2)

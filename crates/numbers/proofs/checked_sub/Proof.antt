@@ -10,29 +10,29 @@ use Rattle.numbers.proofs.Laws.{fits_answer, leaves_answer}
 use Rattle.numbers.proofs.checked_sub.Statement.{statement}
 use Rattle.numbers.proofs.checked_sub.Tie as tie
 
-sub-checked-add : tie.Need-overflow-sub-checked-add
-sub-checked-add c = neg_fits _ (again c.before.ranges.b) c.if1.true
+sub-checked-add : tie.Need-overflow_sub-b
+sub-checked-add c = neg_fits _ (again c.ranges.b) c.if-b-gt-LEAST.true
 
-sub-t8 : tie.Need-overflow-sub-t8
+sub-t8 : tie.Need-overflow_sub-result
 sub-t8 c =
-    let f = c.before.before.ranges in
-    sub_least _ _ (again f.a) (again f.b) c.before.if1.false c.if2.false
+    let f = c.ranges in
+    sub_least _ _ (again f.a) (again f.b) c.if-b-gt-LEAST.false c.if-a-ge0.false
 
-returns : tie.Need-returns
+returns : tie.Need-returns-then-b-gt-LEAST
 returns c =
-    let f = c.before.before.ranges in
-    c.checked-add.ensures
+    let f = c.ranges in
+    c.checked_add.ensures
     ∙ ap checked_of (ap₂ ◌+ℤ◌ (to_z-of_z f.a) (to_z-of_z (sub-checked-add c.before) ∙ minus_is f.b))
 
-returns-2 : tie.Need-returns-2
+returns-2 : tie.Need-returns-then-a-ge0
 returns-2 c =
-    let f = c.before.before.ranges in
+    let f = c.ranges in
     leaves_answer (ap₂ ◌-ℤ◌ (to_z-of_z f.a) (to_z-of_z f.b))
-    (sub_least_out _ _ (again f.a) (again f.b) c.before.if1.false c.if2.true)
+    (sub_least_out _ _ (again f.a) (again f.b) c.if-b-gt-LEAST.false c.if-a-ge0.true)
 
-returns-3 : tie.Need-returns-3
+returns-3 : tie.Need-returns-else-a-ge0
 returns-3 c =
-    let f = c.before.before.ranges in
+    let f = c.ranges in
     fits_answer (ap₂ ◌-ℤ◌ (to_z-of_z f.a) (to_z-of_z f.b)) (sub-t8 c)
 
 pub checked_sub_spec : {M : Type 1} → statement M

@@ -10,23 +10,21 @@ use Rattle.orders.specs.Parts.{only}
 use Rattle.orders.proofs.bound_code.Statement.{statement}
 use Rattle.orders.proofs.bound_code.Tie as tie
 
-modulo : tie.Need-returns-6
+modulo : tie.Need-returns-in-Modulo
 unfolding decode
 modulo c =
-    let z = c.before.before.before.before.before in
-    rw c.before.enum-told6.given.1
-    (c.modulo-code.ensures ∙ ap (λ (x : Fields). first_failing (modulo_checks (only x) (decode (form_of z.args.f) z.args.right.now))) z.requires.0.head)
+    rw c.in-Modulo.is
+    (c.modulo_code.ensures ∙ ap (λ (x : Fields). first_failing (modulo_checks (only x) (decode (form_of c.args.f) c.args.right.now))) c.requires.0.head)
 
-log : tie.Need-returns-7
+log : tie.Need-returns-in-Log
 unfolding decode
-log c = rw c.before.enum-told7.given.1 c.log-code.ensures
+log c = rw c.in-Log.is c.log_code.ensures
 
-power : tie.Need-returns-8
+power : tie.Need-returns-in-Power
 unfolding decode
 power c =
-    let z = c.before.before.before.before.before in
-    rw c.before.enum-told8.given.1
-    (c.power-code.ensures ∙ ap (λ (x : Fields). first_failing (power_checks (only x) (decode (form_of z.args.f) z.args.right.now))) z.requires.0.head)
+    rw c.in-Power.is
+    (c.power_code.ensures ∙ ap (λ (x : Fields). first_failing (power_checks (only x) (decode (form_of c.args.f) c.args.right.now))) c.requires.0.head)
 
 pub bound_code_spec : {M : Type 1} → statement M
 unfolding first_failing
@@ -39,20 +37,20 @@ bound_code_spec =
     (λ c. search rules)
     (λ c. search rules)
     (λ c. search rules)
-    (λ c κs. c.before.before.before.before.requires.1)
+    (λ c κs. c.requires.1)
     (λ c. search rules)
-    (λ c κs. (c.before.before.before.before.requires.0, c.before.before.before.before.requires.1.passed))
+    (λ c κs. (c.requires.0, c.requires.1.passed))
     (λ c. search rules)
-    (λ c κs. c.before.before.before.before.requires.1)
+    (λ c κs. c.requires.1)
     (λ c. search rules)
     (λ c. search rules)
-    (λ c. rw c.enum_told.given.1)
-    (λ c. rw c.enum-told2.given.1)
-    (λ c. rw c.enum-told3.given.1)
-    (λ c. rw c.enum-told4.given.1)
-    (λ c. rw c.enum-told5.given.1)
+    (λ c. rw c.in-Abs.is)
+    (λ c. rw c.in-Add.is)
+    (λ c. rw c.in-Subtract.is)
+    (λ c. rw c.in-Multiply.is)
+    (λ c. rw c.in-Divide.is)
     modulo
     log
     power
-    (λ c. rw c.enum-told9.given.1)
-    (λ c. rw c.enum-told10.given.1))
+    (λ c. rw c.in-Negative.is)
+    (λ c. rw c.in-Pool.is))

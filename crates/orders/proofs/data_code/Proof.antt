@@ -15,18 +15,16 @@ one_number : (t : Bool) → 15 ≡ first 15 t 15
 one_number true = refl
 one_number false = refl
 
-returns : tie.Need-returns
+returns : tie.Need-returns-then-is_whole_range
 unfolding first_failing decode
 returns c =
-    let z = c.before.before.before.before.before in
-    rw (← c.before.before.is-whole-range.ensures, ← c.before.is-whole-range2.ensures, c.if1.true)
-    (one_number (not (lowers_present (nature_in (form_of z.args.f) z.args.left.now))))
+    rw (← c.is_whole_range.ensures, ← c.is_whole_range-2.ensures, c.if-is_whole_range.true)
+    (one_number (not (lowers_present (nature_in (form_of c.args.f) c.args.left.now))))
 
-returns-2 : tie.Need-returns-2
+returns-2 : tie.Need-returns
 unfolding first_failing decode
 returns-2 c =
-    let b = c.before.before.before in
-    rw (← b.before.is-whole-range.ensures, ← b.is-whole-range2.ensures, c.before.before.if1.false, c.positive-code.ensures, c.before.lowers-present.ensures)
+    rw (← c.is_whole_range.ensures, ← c.is_whole_range-2.ensures, c.if-is_whole_range.false, c.positive_code.ensures, c.lowers_present.ensures)
 
 pub data_code_spec : {M : Type 1} → statement M
 data_code_spec =

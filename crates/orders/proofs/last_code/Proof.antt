@@ -6,8 +6,7 @@ use Rattle.orders.proofs.last_code.Tie as tie
 
 returns : tie.Need-returns
 returns c =
-    let z = c.before.before.before.before in
-    rw (c.first.ensures, c.before.groups-clash.ensures) (last_is z.requires.0 z.requires.1)
+    rw (c.first.ensures, c.groups_clash.ensures) (last_is c.requires.0 c.requires.1)
 
 pub last_code_spec : {M : Type 1} → statement M
-last_code_spec = tie.close (tie.spec (λ c κs. (c.before.before.requires.0.passed, c.before.before.requires.1.passed)) (λ c κs. search rules) returns)
+last_code_spec = tie.close (tie.spec (λ c κs. (c.requires.0.passed, c.requires.1.passed)) (λ c κs. search rules) returns)

@@ -5,10 +5,9 @@ use Rattle.shape.proofs.Values.{differs_from_one}
 use Rattle.orders.proofs.not_one.Statement.{statement}
 use Rattle.orders.proofs.not_one.Tie as tie
 
-returns-2 : tie.Need-returns-2
+returns-2 : tie.Need-returns
 returns-2 c =
-    let x = c.before.before.sample.given in
-    rw (x.1, c.float_of.ensures) (differs_from_one (of_bits binary64 x.0.0))
+    rw (c.in-Is.is, c.float_of.ensures) (differs_from_one (of_bits binary64 c.in-Is.bits))
 
 pub not_one_spec : {M : Type 1} → statement M
 not_one_spec = tie.close (tie.spec (λ c. search rules) (λ c. search rules) (λ c. search rules) (λ c κs. search rules) returns-2)

@@ -6,7 +6,7 @@ use Rattle.orders.proofs.operand_code.Tie as tie
 
 returns : tie.Need-returns
 unfolding first_failing
-returns c = rw (c.first2.ensures, c.before.first.ensures, c.before.before.sampled.ensures, c.before.before.before.aggregated.ensures)
+returns c = rw (c.first-2.ensures, c.first.ensures, c.sampled.ensures, c.aggregated.ensures)
 
 pub operand_code_spec : {M : Type 1} → statement M
 operand_code_spec = tie.close (tie.spec (λ c κs. search rules) (λ c κs. search rules) (λ c κs. search rules) (λ c κs. search rules) returns)

@@ -5,19 +5,17 @@ use Rattle.orders.proofs.Orders.{pool_is}
 use Rattle.orders.proofs.pool_code.Statement.{statement}
 use Rattle.orders.proofs.pool_code.Tie as tie
 
-returns : tie.Need-returns
+returns : tie.Need-returns-then-k-ne0
 returns c =
-    let z = c.before.before.before.before in
-    let k = c.before.operands-code in
-    rw (ne_eqb k.result 0 c.if1.true) at (pool_is z.requires.0 z.requires.1 k.ensures)
+    let k = c.operands_code-k in
+    rw (ne_eqb k.result 0 c.if-k-ne0.true) at (pool_is c.requires.0 c.requires.1 k.ensures)
 
-returns-2 : tie.Need-returns-2
+returns-2 : tie.Need-returns
 returns-2 c =
     let b = c.before.before.before in
-    let z = b.before.before.before.before in
-    let k = b.before.operands-code in
-    rw (c.first.ensures, c.before.stack-code.ensures, c.before.before.groups-clash.ensures)
-    (rw (eq-eqb k.result 0 b.if1.false) at (pool_is z.requires.0 z.requires.1 k.ensures))
+    let k = c.operands_code-k in
+    rw (c.first.ensures, c.stack_code.ensures, c.groups_clash-clash.ensures)
+    (rw (eq-eqb k.result 0 c.if-k-ne0.false) at (pool_is c.requires.0 c.requires.1 k.ensures))
 
 pub pool_code_spec : {M : Type 1} → statement M
 pool_code_spec =
@@ -25,7 +23,7 @@ pool_code_spec =
     (tie.spec
     (λ c κs. search rules)
     returns
-    (λ c κs. (c.before.before.before.before.requires.0.passed, c.before.before.before.before.requires.1.passed))
+    (λ c κs. (c.requires.0.passed, c.requires.1.passed))
     (λ c κs. search rules)
     (λ c κs. search rules)
     returns-2)

@@ -5,33 +5,30 @@ use Rattle.base.specs.Decode.{decode}
 use Rattle.orders.proofs.power_code.Statement.{statement}
 use Rattle.orders.proofs.power_code.Tie as tie
 
-returns : tie.Need-returns
+returns : tie.Need-returns-then-not-whole_lowers_present
 unfolding first_failing decode
 returns c =
-    let b = c.before.before.before in
-    rw (← b.before.before.requires.head, ← b.both_of.ensures, c.before.before.if1.true, ← c.before.whole-lowers-present.ensures, c.if2.true)
+    rw (← c.requires.head, ← c.both_of.ensures, c.if-both_of.true, ← c.whole_lowers_present.ensures, c.if-not-whole_lowers_present.true)
 
-returns-2 : tie.Need-returns-2
+returns-2 : tie.Need-returns-then-both_of
 unfolding first_failing decode
 returns-2 c =
-    let b = c.before.before.before in
-    rw (← b.before.before.before.before.requires.head, ← b.before.before.both_of.ensures, b.before.if1.true, ← b.whole-lowers-present.ensures, c.before.before.if2.false)
-    (rw (c.first.ensures, c.before.lowers-non-negative.ensures))
+    rw (← c.requires.head, ← c.both_of.ensures, c.if-both_of.true, ← c.whole_lowers_present.ensures, c.if-not-whole_lowers_present.false)
+    (rw (c.first.ensures, c.lowers_non_negative.ensures))
 
-returns-3 : tie.Need-returns-3
+returns-3 : tie.Need-returns
 unfolding first_failing decode
 returns-3 c =
-    let b = c.before.before.before in
-    rw (← b.before.before.requires.head, ← b.both_of.ensures, c.before.before.if1.false, ← c.before.both-of2.ensures, c.first2.ensures)
+    rw (← c.requires.head, ← c.both_of.ensures, c.if-both_of.false, ← c.both_of-2.ensures, c.first-2.ensures)
 
 pub power_code_spec : {M : Type 1} → statement M
 power_code_spec =
     tie.close
     (tie.spec
     (λ c κs. search rules)
-    (λ c κs. c.before.before.before.requires.passed)
+    (λ c κs. c.requires.passed)
     returns
-    (λ c κs. c.before.before.before.before.before.requires.passed)
+    (λ c κs. c.requires.passed)
     (λ c κs. search rules)
     returns-2
     (λ c κs. search rules)

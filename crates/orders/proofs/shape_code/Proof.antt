@@ -8,10 +8,9 @@ returns : tie.Need-returns
 unfolding first_failing
 returns c =
     let b = c.before.before.before.before.before.before.before.before in
-    let d = b.before.before.before.before.before.before in
-    rw (c.first6.ensures, c.before.first5.ensures, c.before.before.first4.ensures, c.before.before.before.first3.ensures, c.before.before.before.before.first2.ensures, c.before.before.before.before.before.first.ensures)
-    (rw (b.rows-clash.ensures, b.before.columns-clash.ensures, b.before.before.columns-absent2.ensures, b.before.before.before.columns-absent.ensures)
-    (rw (d.same-dataset.ensures, d.before.both-private.ensures)))
+    rw (c.first-4.ensures, c.first-3.ensures, c.first-sizes.ensures, c.first-2.ensures, c.first-rest.ensures, c.first.ensures)
+    (rw (c.rows_clash-rows.ensures, c.columns_clash-columns.ensures, c.columns_absent-2.ensures, c.columns_absent.ensures)
+    (rw (c.same_dataset.ensures, c.both_private-private.ensures)))
 
 pub shape_code_spec : {M : Type 1} → statement M
 shape_code_spec =

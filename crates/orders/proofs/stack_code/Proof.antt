@@ -7,9 +7,8 @@ use Rattle.orders.proofs.stack_code.Tie as tie
 returns : tie.Need-returns
 unfolding first_failing
 returns c =
-    let b = c.before.before.before.before.before in
-    rw (c.first3.ensures, c.before.first2.ensures, c.before.before.first.ensures)
-    (rw (b.columns-unequal.ensures, b.before.columns-absent2.ensures, b.before.before.columns-absent.ensures))
+    rw (c.first-3.ensures, c.first-2.ensures, c.first.ensures)
+    (rw (c.columns_unequal-columns.ensures, c.columns_absent-2.ensures, c.columns_absent.ensures))
 
 pub stack_code_spec : {M : Type 1} → statement M
 stack_code_spec =

@@ -24,7 +24,7 @@ use Rattle.plan_leaves.proofs.Leaves.{some_code, walk_none}
 use Rattle.plan.proofs.take_steps.Statement.{statement}
 use Rattle.plan.proofs.take_steps.Tie as tie
 
-abbrev invariant-loop : tie.invariant-loop
+abbrev invariant-loop : tie.invariant-loop-k
 invariant-loop plan nodes from lent work₀ first₀ second₀ us₀ bs₀ store₀ hints₀ scratch₀ count k₀ work first second us bs store hints scratch k =
     (leaf_count plan ≤ k)
     × (k ≤ node_count plan)
@@ -38,12 +38,12 @@ invariant-loop plan nodes from lent work₀ first₀ second₀ us₀ bs₀ store
     × (length hints ≡ length hints₀)
     × (length scratch ≡ length scratch₀)
 
-abbrev decreases-loop : tie.decreases-loop
+abbrev decreases-loop : tie.decreases-loop-k
 decreases-loop plan nodes from lent work₀ first₀ second₀ us₀ bs₀ store₀ hints₀ scratch₀ count k₀ work first second us bs store hints scratch k = node_count plan - k
 
 -- ---- at the loop's head
 
-module _ (t : tie.At-loop invariant-loop decreases-loop) where
+module _ (t : tie.At-loop-k invariant-loop decreases-loop) where
   abbrev start : tie.Start invariant-loop decreases-loop
   start = t.before.before.before.before.before.before.before.before
 
@@ -53,18 +53,18 @@ module _ (t : tie.At-loop invariant-loop decreases-loop) where
   rooms : Rooms narrow t.loop.first t.loop.second t.loop.scratch
   rooms =
       let i = t.loop.inv in
-      let b = start.pre.1.0 in
+      let b = start.requires.1.0 in
       record { first_room = omega arith; second_room = omega arith; sheet_room = omega arith }
 
   large : start.args.lent ≡ true → Large narrow t.loop.us t.loop.bs t.loop.store t.loop.hints t.loop.first t.loop.second t.loop.scratch
   large e =
       let i = t.loop.inv in
-      let l = start.pre.1.1 e in
+      let l = start.requires.1.1 e in
       let s = l.lists.stores in
       let a = l.lists.arrays in
       let x = l.texts.stores in
-      let r = l.lists.sheet-room in
-      let q = l.texts.sheet-room in
+      let r = l.lists.sheet_room in
+      let q = l.texts.sheet_room in
       record {
         lists = record {
           stores = record { lefts = omega arith; rights = omega arith; results = omega arith; hinted = omega arith };
@@ -79,50 +79,50 @@ module _ (t : tie.At-loop invariant-loop decreases-loop) where
 
 -- ---- in a turn
 
-module _ (c : tie.In-loop invariant-loop decreases-loop) where
-  abbrev head : tie.At-loop invariant-loop decreases-loop
+module _ (c : tie.In-loop-k invariant-loop decreases-loop) where
+  abbrev head : tie.At-loop-k invariant-loop decreases-loop
   head = c.before
 
   further : head.loop.k < node_count (plan head)
   further = omega arith
 
   few : head.loop.k < node_limit
-  few = let f = planned (plan head) (start head).pre.0.0.formed in let h = further in omega arith
+  few = let f = planned (plan head) (start head).requires.0.0.formed in let h = further in omega arith
 
   turn : Steppable (plan head) head.loop.k head.loop.work
   turn =
       let i = head.loop.inv in
-      let w = (start head).pre.0.0 in
+      let w = (start head).requires.0.0 in
       steppable head.loop.k (record { formed = w.formed; room = omega (arith, w.room) }) i.0 further
 
 -- k is in the set
-here : (c : tie.Else1 invariant-loop decreases-loop) → in_set (start c.before.before.before).args.nodes c.before.before.before.loop.k ≡ true
-here c = sym c.before.has.ensures ∙ not-false _ c.if1.false
+here : (c : tie.Else-not-has invariant-loop decreases-loop) → in_set (start c.before.before.before).args.nodes c.loop-k.k ≡ true
+here c = sym c.has.ensures ∙ c.if-not-has.false
 
-lent : (c : tie.Joined2 invariant-loop decreases-loop) → let t = c.before.before.before.before in
-    holds_categories narrow (sheet_in narrow (left_of (plan t) t.loop.k) t.loop.work) ≡ true
-    → Large narrow t.loop.us t.loop.bs t.loop.store t.loop.hints t.loop.first t.loop.second t.loop.scratch
+lent : (c : tie.Joined-not-lent invariant-loop decreases-loop) → let t = c.before.before.before.before in
+    holds_categories narrow (sheet_in narrow (left_of (plan t) c.loop-k.k) c.loop-k.work) ≡ true
+    → Large narrow c.loop-k.us c.loop-k.bs c.loop-k.store c.loop-k.hints c.loop-k.first c.loop-k.second c.loop-k.scratch
 lent c h =
     let t = c.before.before.before.before in
-    ⊎_elim (λ w. absurd (subst T (sym h ∙ sym w.2.ensures ∙ w.3.left) tt)) (λ w. large t (not-false (start t).args.lent w.left)) c.if2.branch
+    ⊎_elim (λ w. absurd (subst T (sym h ∙ sym w.2.ensures ∙ w.3.left) tt)) (λ w. large t (not-false (start t).args.lent w.left)) c.if-not-lent.branch
 
-node-count-requires : tie.Need-node-count-requires invariant-loop decreases-loop
-node-count-requires c κs = let start = c.before.before.before.before.before.before in (planned start.args.plan.now start.requires.0.0.formed).sizes
+node-count-requires : tie.Need-node_count-count-requires invariant-loop decreases-loop
+node-count-requires c κs = (planned c.args.plan.now c.requires.0.0.formed).sizes
 
-loop-holds : tie.Need-loop-init invariant-loop decreases-loop
-loop-holds c = (c.before.before.before.before.before.before.before.requires.0.1, c.before.before.before.before.before.before.before.requires.0.2, refl, refl, refl, refl, refl, refl, refl, refl, refl)
+loop-holds : tie.Need-loop-k-init invariant-loop decreases-loop
+loop-holds c = (c.requires.0.1, c.requires.0.2, refl, refl, refl, refl, refl, refl, refl, refl, refl)
 
 has-requires : tie.Need-has-requires invariant-loop decreases-loop
 has-requires c κs = let h = few c in omega arith
 
 -- k is not in the set
-loop-again : tie.Need-loop-preserved invariant-loop decreases-loop
+loop-again : tie.Need-loop-k-preserved-then-not-has invariant-loop decreases-loop
 loop-again c =
     let i = c.before.before in
     let t = i.before in
-    let l = t.loop in
+    let l = c.loop-k in
     let h = further i in
-    let e = sym c.before.has.ensures ∙ not-true _ c.if1.true in (
+    let e = sym c.has.ensures ∙ c.if-not-has.true in (
       omega arith,
       omega arith,
       l.invariant.2 ∙ walk_past (in_set (start t).args.nodes) (plan t) (node_count (plan t)) l.k l.work h e,
@@ -136,44 +136,44 @@ loop-again c =
       l.invariant.10,
     )
 
-may-use-stores-requires : tie.Need-may-use-stores-requires invariant-loop decreases-loop
+may-use-stores-requires : tie.Need-may_use_stores-requires invariant-loop decreases-loop
 may-use-stores-requires c κs = turn c.before.before.before.before
 
-returns : tie.Need-returns invariant-loop decreases-loop
+returns : tie.Need-returns-then-may_use_stores invariant-loop decreases-loop
 returns c =
-    let i = c.before.before.before.before.before.before.before.loop.invariant in
-    (sym i.2, (not-true _ c.before.before.before.if2.true, i.0, i.1))
+    let i = c.loop-k.invariant in
+    (sym i.2, (c.if-not-lent.true, i.0, i.1))
 
-step-on-requires : tie.Need-step-on-requires invariant-loop decreases-loop
+step-on-requires : tie.Need-step_on-put-requires invariant-loop decreases-loop
 step-on-requires c κs =
     let j = c.before.before.before.before.before.before.before.before in
-    ((turn j.before.before.before, rooms j.before.before.before.before), lent j)
+    ((turn j.before.before.before, rooms j.before.before.before.before), lent c.before.before.before.before.before.before.before.before)
 
-returns-2 : tie.Need-returns-2 invariant-loop decreases-loop
+returns-2 : tie.Need-returns-then-code-ne0 invariant-loop decreases-loop
 returns-2 c =
     let done = c.before.before.before.before.before.before.before.before.before.before.before.before.before.before.before in
     let past = done.before.before.before.before.before.before.before.before.before.before in
     let i = past.before.before in
-    let t = here past in
-    let l = i.before.loop in
+    let t = here c.before.before.before.before.before.before.before.before.before.before.before.before.before.before.before.before.before.before.before.before.before.before.before.before.before in
+    let l = c.loop-k in
     let p = plan i.before in
-    let f = planned p (start i.before).pre.0.0.formed in
+    let f = planned p (start i.before).requires.0.0.formed in
     let h = further i in
-    (sym (l.invariant.2 ∙ walk_refused (in_set (start i.before).args.nodes) p (node_count p) l.k l.work h t done.step-on.result _ done.step-on.ensures c.before.Code-in.ensures c.if4.true), (some_code _ c.if4.true, omega arith))
+    (sym (l.invariant.2 ∙ walk_refused (in_set (start i.before).args.nodes) p (node_count p) l.k l.work h t c.step_on-put.result _ c.step_on-put.ensures c.Code-in.ensures c.if-code-ne0.true), (some_code _ c.if-code-ne0.true, omega arith))
 
-loop-again-2 : tie.Need-loop-preserved-2 invariant-loop decreases-loop
+loop-again-2 : tie.Need-loop-k-preserved invariant-loop decreases-loop
 loop-again-2 c =
     let done = c.before.before.before.before.before.before.before.before.before.before.before.before.before.before.before in
     let past = done.before.before.before.before.before.before.before.before.before.before in
     let i = past.before.before in
-    let t = here past in
-    let l = i.before.loop in
+    let t = here c.before.before.before.before.before.before.before.before.before.before.before.before.before.before.before.before.before.before.before.before.before.before.before.before.before in
+    let l = c.loop-k in
     let p = plan i.before in
     let h = further i in
-    let kept = done.step-on.auto.1.1 in (
+    let kept = c.step_on-put.auto.1.1 in (
       omega arith,
       omega arith,
-      l.invariant.2 ∙ walk_more (in_set (start i.before).args.nodes) p (node_count p) l.k l.work h t done.step-on.result _ done.step-on.ensures (sym c.before.Code-in.ensures ∙ c.if4.false),
+      l.invariant.2 ∙ walk_more (in_set (start i.before).args.nodes) p (node_count p) l.k l.work h t c.step_on-put.result _ c.step_on-put.ensures (sym c.Code-in.ensures ∙ c.if-code-ne0.false),
       kept.0 ∙ l.invariant.3,
       kept.1.0 ∙ l.invariant.4,
       kept.1.1.0 ∙ l.invariant.5,
@@ -184,13 +184,13 @@ loop-again-2 c =
       kept.1.1.1.1.1.1.1.0 ∙ l.invariant.10,
     )
 
-returns-3 : tie.Need-returns-3 invariant-loop decreases-loop
+returns-3 : tie.Need-returns invariant-loop decreases-loop
 returns-3 c =
     let t = c.before in
-    let l = t.loop in
+    let l = c.loop-k in
     let p = plan t in
     let f = planned p (start t).requires.0.0.formed in
-    let e = t.before.node-count.ensures in
+    let e = c.node_count-count.ensures in
     let h : node_count p ≤ l.k = omega arith in
     (ap (λ (n : ℕ). outcome 0 n l.work) e ∙ sym (l.invariant.2 ∙ walk_none (in_set (start t).args.nodes) p (node_count p) l.k l.work h), omega arith)
 

@@ -10,68 +10,68 @@ use Rattle.plan_form.specs.Form.{node_limit, steps_at, node_count, leaf_count, s
 use Rattle.plan_form.proofs.plan_fails.Statement.{statement}
 use Rattle.plan_form.proofs.plan_fails.Tie as tie
 
-returns : tie.Need-returns
+returns : tie.Need-returns-then-plan-lt-STEPS_AT
 unfolding plan_fails
-returns c = rw (lt-ltb (length c.before.before.args.plan.now) steps_at c.if1.true)
+returns c = rw (lt-ltb (length c.args.plan.now) steps_at c.if-plan-lt-STEPS_AT.true)
 
-returns-2 : tie.Need-returns-2
+returns-2 : tie.Need-returns-then-n-eq0
 unfolding plan_fails
 returns-2 c =
-    let p = c.before.before.before.before.before.args.plan.now in
+    let p = c.args.plan.now in
     let h : node_count p ≡ 0 = omega arith in
-    rw (le-ltb (length p) steps_at c.before.before.before.if1.false, eq-eqb (node_count p) 0 h)
+    rw (le-ltb (length p) steps_at c.if-plan-lt-STEPS_AT.false, eq-eqb (node_count p) 0 h)
 
-returns-3 : tie.Need-returns-3
+returns-3 : tie.Need-returns-then-n-gt-NODE_LIMIT
 unfolding plan_fails
 returns-3 c =
-    let p = c.before.before.before.before.before.before.args.plan.now in
+    let p = c.args.plan.now in
     let n0 : node_count p ≡ 0 → ⊥ = λ e. omega arith in
     let h : node_limit < node_count p = omega arith in
-    rw (le-ltb (length p) steps_at c.before.before.before.before.if1.false, ne_eqb (node_count p) 0 n0, lt-ltb node_limit (node_count p) h)
+    rw (le-ltb (length p) steps_at c.if-plan-lt-STEPS_AT.false, ne_eqb (node_count p) 0 n0, lt-ltb node_limit (node_count p) h)
 
-returns-4 : tie.Need-returns-4
+returns-4 : tie.Need-returns-then-leaves-eq0
 unfolding plan_fails
 returns-4 c =
-    let p = c.before.before.before.before.before.before.before.args.plan.now in
+    let p = c.args.plan.now in
     let n0 : node_count p ≡ 0 → ⊥ = λ e. omega arith in
     let few : node_count p ≤ node_limit = omega arith in
     let h : leaf_count p ≡ 0 = omega arith in
     rw (
-      le-ltb (length p) steps_at c.before.before.before.before.before.if1.false,
+      le-ltb (length p) steps_at c.if-plan-lt-STEPS_AT.false,
       ne_eqb (node_count p) 0 n0,
       le-ltb node_limit (node_count p) few,
       eq-eqb (leaf_count p) 0 h,
     )
 
-returns-5 : tie.Need-returns-5
+returns-5 : tie.Need-returns-then-n-leaves
 unfolding plan_fails
 returns-5 c =
-    let p = c.before.before.before.before.before.before.before.before.args.plan.now in
+    let p = c.args.plan.now in
     let n0 : node_count p ≡ 0 → ⊥ = λ e. omega arith in
     let few : node_count p ≤ node_limit = omega arith in
     let l0 : leaf_count p ≡ 0 → ⊥ = λ e. omega arith in
     let h : node_count p < leaf_count p = omega arith in
     rw (
-      le-ltb (length p) steps_at c.before.before.before.before.before.before.if1.false,
+      le-ltb (length p) steps_at c.if-plan-lt-STEPS_AT.false,
       ne_eqb (node_count p) 0 n0,
       le-ltb node_limit (node_count p) few,
       ne_eqb (leaf_count p) 0 l0,
       lt-ltb (node_count p) (leaf_count p) h,
     )
 
-returns-6 : tie.Need-returns-6
+returns-6 : tie.Need-returns-then-plan-n
 unfolding plan_fails
 returns-6 c =
-    let p = c.before.before.before.before.before.before.before.before.before.args.plan.now in
+    let p = c.args.plan.now in
     let n0 : node_count p ≡ 0 → ⊥ = λ e. omega arith in
     let few : node_count p ≤ node_limit = omega arith in
     let l0 : leaf_count p ≡ 0 → ⊥ = λ e. omega arith in
     let many : leaf_count p ≤ node_count p = omega arith in
     let l = c.before.before.before.before.before in
-    let size = ap₂ (λ (n l : ℕ). steps_at + 8 * (n - l)) l.before.node-count.ensures l.leaf-count.ensures in
-    let h : length p ≡ steps_at + 8 * step_count p → ⊥ = λ e. c.if6.true (e ∙ sym size) in
+    let size = ap₂ (λ (n l : ℕ). steps_at + 8 * (n - l)) c.node_count-n.ensures c.leaf_count-leaves.ensures in
+    let h : length p ≡ steps_at + 8 * step_count p → ⊥ = λ e. c.if-plan-n.true (e ∙ sym size) in
     rw (
-      le-ltb (length p) steps_at c.before.before.before.before.before.before.before.if1.false,
+      le-ltb (length p) steps_at c.if-plan-lt-STEPS_AT.false,
       ne_eqb (node_count p) 0 n0,
       le-ltb node_limit (node_count p) few,
       ne_eqb (leaf_count p) 0 l0,
@@ -79,24 +79,24 @@ returns-6 c =
       ne_eqb (length p) (steps_at + 8 * step_count p) h,
     )
 
-returns-7 : tie.Need-returns-7
+returns-7 : tie.Need-returns
 unfolding plan_fails
 returns-7 c =
-    let p = c.before.before.before.before.before.before.before.before.before.before.args.plan.now in
+    let p = c.args.plan.now in
     let n0 : node_count p ≡ 0 → ⊥ = λ e. omega arith in
     let few : node_count p ≤ node_limit = omega arith in
     let l0 : leaf_count p ≡ 0 → ⊥ = λ e. omega arith in
     let many : leaf_count p ≤ node_count p = omega arith in
     let exact : length p ≡ steps_at + 8 * step_count p = omega arith in
     rw (
-      le-ltb (length p) steps_at c.before.before.before.before.before.before.before.before.if1.false,
+      le-ltb (length p) steps_at c.if-plan-lt-STEPS_AT.false,
       ne_eqb (node_count p) 0 n0,
       le-ltb node_limit (node_count p) few,
       ne_eqb (leaf_count p) 0 l0,
       le-ltb (node_count p) (leaf_count p) many,
       eq-eqb (length p) (steps_at + 8 * step_count p) exact,
     )
-    (ap not c.steps-permitted.ensures)
+    (ap not c.steps_permitted.ensures)
 
 pub plan_fails_spec : {M : Type 1} → statement M
 plan_fails_spec =

@@ -6,18 +6,16 @@ use Rattle.plan_form.proofs.FormLaws.{permitted_unlisted, permitted_is}
 use Rattle.plan_form.proofs.step_permitted.Statement.{statement}
 use Rattle.plan_form.proofs.step_permitted.Tie as tie
 
-returns : tie.Need-returns
+returns : tie.Need-returns-in_default
 returns c =
-    let n = c.before.before in
-    let a = n.before.before.before.args in
-    permitted_unlisted a.plan.now a.k n.before.component-number.ensures (sym n.from-number.ensures ∙ c.enum_told.given.1)
+    let a = c.args in
+    permitted_unlisted a.plan.now a.k c.component_number.ensures (sym c.from_number-numbered.ensures ∙ c.in_default.is)
 
-returns-2 : tie.Need-returns-2
+returns-2 : tie.Need-returns
 returns-2 c =
-    let n = c.before.before.before.before.before.before.before in
-    let a = n.before.before.before.args in
-    permitted_is a.plan.now a.k n.before.component-number.ensures (sym n.from-number.ensures ∙ c.before.before.before.before.before.numbered.given.1)
-    c.before.before.before.left-operand.ensures c.before.before.right_operand.ensures (c.is-unary.ensures ∙ ap is_unary c.before.family.ensures)
+    let a = c.args in
+    permitted_is a.plan.now a.k c.component_number.ensures (sym c.from_number-numbered.ensures ∙ c.in-Is.is)
+    c.left_operand-left.ensures c.right_operand-right.ensures (c.is_unary.ensures ∙ ap is_unary c.family.ensures)
 
 pub step_permitted_spec : {M : Type 1} → statement M
 step_permitted_spec =

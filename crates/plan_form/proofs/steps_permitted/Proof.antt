@@ -9,16 +9,16 @@ use Rattle.plan_form.proofs.FormLaws.{permitted}
 use Rattle.plan_form.proofs.steps_permitted.Statement.{statement}
 use Rattle.plan_form.proofs.steps_permitted.Tie as tie
 
-abbrev invariant-loop : tie.invariant-loop
+abbrev invariant-loop : tie.invariant-loop-k
 invariant-loop plan n k₀ k = (leaf_count plan ≤ k) × Holding (permitted plan) n k (holds_from (step_count plan) (leaf_count plan) (permitted plan))
 
-abbrev decreases-loop : tie.decreases-loop
+abbrev decreases-loop : tie.decreases-loop-k
 decreases-loop plan n k₀ k = n - k
 
-loop-holds : tie.Need-loop-init invariant-loop decreases-loop
+loop-holds : tie.Need-loop-k-init invariant-loop decreases-loop
 loop-holds c =
-    let p = permitted c.before.before.before.args.plan.now in
-    (search rules, record { rest = ap₂ (λ (n k : ℕ). holds_from (n - k) k p) c.before.node-count.ensures c.leaf-count.ensures })
+    let p = permitted c.args.plan.now in
+    (search rules, record { rest = ap₂ (λ (n k : ℕ). holds_from (n - k) k p) c.node_count-n.ensures c.leaf_count-k.ensures })
 
 pub steps_permitted_spec : {M : Type 1} → statement M
 steps_permitted_spec =

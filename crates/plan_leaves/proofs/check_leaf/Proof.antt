@@ -10,7 +10,7 @@ use Rattle.plan_leaves.proofs.check_leaf.Statement.{statement}
 use Rattle.plan_leaves.proofs.check_leaf.Tie as tie
 
 returns : tie.Need-returns
-returns c = c.check-sheet.ensures ∙ ap (λ (s : List ℕ). code_of (read narrow s)) c.before.before.sheet-end.ensures.bytes
+returns c = c.check_sheet.ensures ∙ ap (λ (s : List ℕ). code_of (read narrow s)) c.sheet_end-end.ensures.bytes
 
 pub check_leaf_spec : {M : Type 1} → statement M
 check_leaf_spec =

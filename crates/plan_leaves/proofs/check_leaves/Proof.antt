@@ -15,31 +15,32 @@ use Rattle.calls.specs.Walk.{leaves_then, leaf_nodes}
 use Rattle.plan_form.proofs.FormLaws.{Planned, planned}
 use Rattle.plan_leaves.proofs.Leaves.{some_code, leaves_past, leaves_more, leaves_refused, leaves_none}
 use Rattle.plan_leaves.proofs.check_leaves.Statement.{statement}
+use Rattle.plan_leaves.proofs.check_leaves.Lts.{then-has+else-code-ne0, else-has}
 use Rattle.plan_leaves.proofs.check_leaves.Tie as tie
 
 abbrev from : ℕ → List ℕ → List ℕ → ℕ → Outcome → Outcome
 from nodes plan work k rest = leaves_then narrow (chosen (in_set nodes) (list_from (leaf_count plan - k) k (λ i. i))) work rest
 
-abbrev invariant-loop : tie.invariant-loop
+abbrev invariant-loop : tie.invariant-loop-k
 invariant-loop plan nodes work leaves k₀ k =
     (k ≤ leaf_count plan) × ((rest : Outcome) → leaves_then narrow (chosen (in_set nodes) (leaf_nodes narrow plan)) work rest ≡ from nodes plan work k rest)
 
-abbrev decreases-loop : tie.decreases-loop
+abbrev decreases-loop : tie.decreases-loop-k
 decreases-loop plan nodes work leaves k₀ k = leaf_count plan - k
 
-leaf-count-requires : tie.Need-leaf-count-requires invariant-loop decreases-loop
-leaf-count-requires c κs = let start = c.before.before in (planned start.args.plan.now start.requires.formed).sizes
+leaf-count-requires : tie.Need-leaf_count-leaves-requires invariant-loop decreases-loop
+leaf-count-requires c κs = (planned c.args.plan.now c.requires.formed).sizes
 
-loop-holds : tie.Need-loop-init invariant-loop decreases-loop
+loop-holds : tie.Need-loop-k-init invariant-loop decreases-loop
 loop-holds c =
-    let a = c.before.before.before.args in (
+    let a = c.args in (
       omega arith,
       λ rest.
           ap (λ (n : ℕ). leaves_then narrow (chosen (in_set a.nodes) (list_from n 0 (λ i. i))) a.work.now rest) (sym (sub-zero (leaf_count a.plan.now))),
     )
 
 -- in a turn
-module _ (c : tie.In-loop invariant-loop decreases-loop) where
+module _ (c : tie.In-loop-k invariant-loop decreases-loop) where
   abbrev start : tie.Start invariant-loop decreases-loop
   start = c.before.before.before.before.before
 
@@ -47,10 +48,10 @@ module _ (c : tie.In-loop invariant-loop decreases-loop) where
   plan = start.args.plan.now
 
   abbrev k : ℕ
-  k = c.before.loop.k
+  k = c.before.loop-k.k
 
   form : Planned plan
-  form = planned plan start.pre.formed
+  form = planned plan start.requires.formed
 
   further : k < leaf_count plan
   further = omega arith
@@ -58,19 +59,19 @@ module _ (c : tie.In-loop invariant-loop decreases-loop) where
   -- what all of them say, by those from k on
   whole : (rest : Outcome) → leaves_then narrow (chosen (in_set start.args.nodes) (leaf_nodes narrow plan)) start.args.work.now rest
       ≡ from start.args.nodes plan start.args.work.now k rest
-  whole = c.before.loop.invariant.1
+  whole = c.before.loop-k.invariant.1
 
 has-requires : tie.Need-has-requires invariant-loop decreases-loop
 has-requires c κs = let f = form c in let h = further c in omega arith
 
-check-leaf-requires : tie.Need-check-leaf-requires invariant-loop decreases-loop
+check-leaf-requires : tie.Need-check_leaf-code-requires invariant-loop decreases-loop
 check-leaf-requires c κs =
     let t = c.before.before in
     let f = form t in
     let h = further t in
     omega (arith, (start t).requires.room)
 
-returns : tie.Need-returns invariant-loop decreases-loop
+returns : tie.Need-returns-then-code-ne0 invariant-loop decreases-loop
 returns c =
     let call = c.before in
     let t = call.before.before.before in
@@ -80,36 +81,35 @@ returns c =
     record {
       says = λ rest.
           whole t rest
-          ∙ leaves_refused (in_set a.nodes) (leaf_count (plan t)) (k t) a.work.now rest h (sym call.before.before.has.ensures ∙ call.before.if1.true)
-          call.check-leaf.ensures c.if2.true;
-      next = (some_code _ c.if2.true, omega arith);
+          ∙ leaves_refused (in_set a.nodes) (leaf_count (plan t)) (k t) a.work.now rest h (sym c.has.ensures ∙ c.if-has.true)
+          c.check_leaf-code.ensures c.if-code-ne0.true;
+      next = (some_code _ c.if-code-ne0.true, omega arith);
     }
 
 -- the leaf passed, or is not in the set
-loop-again : tie.Need-loop-preserved invariant-loop decreases-loop
+loop-again : tie.Need-loop-k-preserved invariant-loop decreases-loop
 loop-again c =
     let t = c.before.before in
     let a = (start t).args in
     let n = leaf_count (plan t) in
     let h = further t in
-    let has = c.before.has.ensures in (
+    let has = c.has.ensures in (
       omega arith,
       λ rest.
           whole t rest
-          ∙ ⊎_elim
-          (λ w. leaves_more (in_set a.nodes) n (k t) a.work.now rest h (sym has ∙ w.0.taken) (sym w.1.ensures ∙ w.2.left))
-          (λ w. leaves_past (in_set a.nodes) n (k t) a.work.now rest h (sym has ∙ w.left))
-          c.if1.branch,
+          ∙ elim c.if-has.branch [
+              then-has+else-code-ne0 w ↦ leaves_more (in_set a.nodes) n (k t) a.work.now rest h (sym has ∙ w.if-has.true) (sym w.check_leaf-code.ensures ∙ w.if-code-ne0.false)
+            | else-has w ↦ leaves_past (in_set a.nodes) n (k t) a.work.now rest h (sym has ∙ w.if-has.false)
+          ],
     )
 
-returns-2 : tie.Need-returns-2 invariant-loop decreases-loop
+returns-2 : tie.Need-returns invariant-loop decreases-loop
 returns-2 c =
-    let l = c.before.loop in
-    let first = c.before.before.before.before.before in
-    let p = first.args.plan.now in
-    let f = planned p first.requires.formed in
+    let l = c.loop-k in
+    let p = c.args.plan.now in
+    let f = planned p c.requires.formed in
     let h : leaf_count p ≤ l.k = omega arith in
-    record { says = λ rest. l.invariant.1 rest ∙ leaves_none (in_set first.args.nodes) (leaf_count p) l.k first.args.work.now rest h; next = omega arith }
+    record { says = λ rest. l.invariant.1 rest ∙ leaves_none (in_set c.args.nodes) (leaf_count p) l.k c.args.work.now rest h; next = omega arith }
 
 pub check_leaves_spec : {M : Type 1} → statement M
 check_leaves_spec =

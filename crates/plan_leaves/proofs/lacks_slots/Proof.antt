@@ -11,16 +11,16 @@ use Rattle.plan_form.proofs.FormLaws.{planned}
 use Rattle.plan_leaves.proofs.lacks_slots.Statement.{statement}
 use Rattle.plan_leaves.proofs.lacks_slots.Tie as tie
 
-node-count-requires : tie.Need-node-count-requires
-node-count-requires c κs = (planned c.before.before.args.plan.now c.before.before.requires).sizes
+node-count-requires : tie.Need-node_count-requires
+node-count-requires c κs = (planned c.args.plan.now c.requires).sizes
 
-mul-result : tie.Need-overflow-mul-result
+mul-result : tie.Need-overflow_mul-result
 mul-result c =
-    let f = planned c.before.before.before.args.plan.now c.before.before.before.requires in
+    let f = planned c.args.plan.now c.requires in
     omega arith
 
 returns : tie.Need-returns
-returns c = ap (λ (n : ℕ). ltb (length c.before.before.before.args.work.now) (slot_at narrow n)) c.node-count.ensures
+returns c = ap (λ (n : ℕ). ltb (length c.args.work.now) (slot_at narrow n)) c.node_count.ensures
 
 pub lacks_slots_spec : {M : Type 1} → statement M
 lacks_slots_spec = tie.close (tie.spec node-count-requires mul-result returns)

@@ -14,13 +14,11 @@ use Rattle.plan_leaves.proofs.may_use_stores.Tie as tie
 
 returns : tie.Need-returns
 returns c =
-    let left = c.before.before in
-    let start = left.before.before.before in
-    let a = start.args in
-    let s = start.requires in
+    let a = c.args in
+    let s = c.requires in
     let work = a.work.now in
-    (rw add-sub_cancel_left at c.holds-categories.ensures)
-    ∙ ap (λ (j : ℕ). holds_categories narrow (slot narrow j work)) left.left-operand.ensures
+    (rw add-sub_cancel_left at c.holds_categories.ensures)
+    ∙ ap (λ (j : ℕ). holds_categories narrow (slot narrow j work)) c.left_operand-start.ensures
     ∙ slot_holds work (left_of a.plan.now a.k) (omega (arith, s.left, s.room))
 
 pub may_use_stores_spec : {M : Type 1} → statement M

@@ -5,17 +5,17 @@ use Rattle.plan_leaves.proofs.Parts.{ends_capped, ends_called}
 use Rattle.plan_leaves.proofs.sheet_end.Statement.{statement}
 use Rattle.plan_leaves.proofs.sheet_end.Tie as tie
 
-returns : tie.Need-returns
+returns : tie.Need-returns-then-n-gt-SLOT
 returns c =
-    let call = c.before.length-called-for in
-    let a = c.before.before.before.before.args in
-    ends_capped a.work.now a.k call.result (rw add-sub_cancel_left at call.ensures) c.if1.true
+    let call = c.length_called_for-n in
+    let a = c.args in
+    ends_capped a.work.now a.k call.result (rw add-sub_cancel_left at call.ensures) c.if-n-gt-SLOT.true
 
-returns-2 : tie.Need-returns-2
+returns-2 : tie.Need-returns
 returns-2 c =
-    let call = c.before.length-called-for in
-    let a = c.before.before.before.before.args in
-    ends_called a.work.now a.k call.result (rw add-sub_cancel_left at call.ensures) c.if1.false
+    let call = c.length_called_for-n in
+    let a = c.args in
+    ends_called a.work.now a.k call.result (rw add-sub_cancel_left at call.ensures) c.if-n-gt-SLOT.false
 
 pub sheet_end_spec : {M : Type 1} → statement M
 sheet_end_spec =

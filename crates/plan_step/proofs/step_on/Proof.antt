@@ -18,14 +18,13 @@ use Rattle.plan_step.proofs.Stepping.{step_unlisted, step_taken, step_lent, left
 use Rattle.plan_step.proofs.step_on.Statement.{statement}
 use Rattle.plan_step.proofs.step_on.Tie as tie
 
-returns : tie.Need-returns
+returns : tie.Need-returns-in_default
 returns c =
-    let named = c.before.before in
-    let a = named.before.before.before.before.before.before.before.before.args in
-    step_unlisted a.plan.now a.k a.work.now (ap component_of (sym named.before.component-number.ensures) ∙ sym named.from-number.ensures ∙ c.enum_told.given.1)
+    let a = c.args in
+    step_unlisted a.plan.now a.k a.work.now (ap component_of (sym c.component_number.ensures) ∙ sym c.from_number-numbered.ensures ∙ c.in_default.is)
 
 -- both operands' sheets are found
-module _ (e : tie.After-sheet-end2) where
+module _ (e : tie.After-sheet_end-right_end) where
   abbrev start : tie.Start
   start = e.before.before.before.before.before.before.before.before.before.before.before.before.before.before.before.before
 
@@ -56,35 +55,32 @@ module _ (e : tie.After-sheet-end2) where
   held : holds_categories narrow left_part_lem ≡ true → holds_categories narrow (sheet_in narrow (left_of plan start.args.k) work) ≡ true
   held h = subst (λ (l : List ℕ). holds_categories narrow l ≡ true) left_sheet h
 
-step-requires : tie.Need-step-requires
+step-requires : tie.Need-step-put-requires
 step-requires c κs =
     let e = c.before.before.before.before.before.before.before.before.before in
     let s = start e in
-    step_lent s.pre.0.1
-    (λ j. (s.pre.1 (held e (left_joins (family e) narrow (left_part_lem e) (right_part_lem e) j))).lists)
-    (λ j. (s.pre.1 (held e (left_texts (family e) narrow (left_part_lem e) (right_part_lem e) j))).texts)
+    step_lent s.requires.0.1
+    (λ j. (s.requires.1 (held e (left_joins (family e) narrow (left_part_lem e) (right_part_lem e) j))).lists)
+    (λ j. (s.requires.1 (held e (left_texts (family e) narrow (left_part_lem e) (right_part_lem e) j))).texts)
 
 -- its own slot begins within the work buffer
-sub-deliver-sheet : tie.Need-overflow-sub-deliver-sheet
+sub-deliver-sheet : tie.Need-slice_bounds-deliver_sheet-count
 sub-deliver-sheet c = let e = c.before.before.before.before.before.before.before.before.before.before.before.before.before.before.before.before.before.before.before.before.before.before in omega (arith, (start e).requires.0.0.room)
 
-deliver-sheet-requires : tie.Need-deliver-sheet-requires
+deliver-sheet-requires : tie.Need-deliver_sheet-requires
 deliver-sheet-requires c κs =
-    let s = c.before.before.before.before.before.before.before.before.before.before.before.before.before in
-    rw s.step.auto.1.1.1.1.1.1.1.1.1.1.1.0 s.step.ensures.1
+    rw c.step-put.auto.out c.step-put.ensures.1
 
-returns-2 : tie.Need-returns-2
+returns-2 : tie.Need-returns
 returns-2 c =
     let done = c.before.before in
     let taken = done.before.before.before.before.before.before.before.before.before.before.before.before.before.before in
     let e = taken.before.before.before.before.before.before.before.before.before.before in
-    let named = e.before.before.before.before.before.before in
-    let number = named.before.before in
     let a = (start e).args in
-    let listed = ap component_of (sym number.before.component-number.ensures) ∙ sym number.from-number.ensures ∙ named.numbered.given.1 in
-    let derived = taken.step.ensures.0 ∙ ap₂ (step narrow named.numbered.given.0.0 a.k) (left_sheet e) (right_sheet e) in
+    let listed = ap component_of (sym c.component_number.ensures) ∙ sym c.from_number-numbered.ensures ∙ c.in-Is.is in
+    let derived = c.step-put.ensures.0 ∙ ap₂ (step narrow c.in-Is.c a.k) (left_sheet e) (right_sheet e) in
     rw (part_back (slot_at narrow a.k) (work e))
-    (step_taken (plan e) a.k (work e) listed done.deliver-sheet.result _ (done.deliver-sheet.ensures.0 ∙ ap₂ delivery derived (part_lent (slot_at narrow a.k) (work e))))
+    (step_taken (plan e) a.k (work e) listed c.deliver_sheet.result _ (c.deliver_sheet.ensures.0 ∙ ap₂ delivery derived (part_lent (slot_at narrow a.k) (work e))))
 
 pub step_on_spec : {M : Type 1} → statement M
 step_on_spec =

@@ -6,7 +6,7 @@ use Rattle.pool_fields.proofs.pool_head.Tie as tie
 
 returns : tie.Need-returns
 unfolding pool_fields
-returns c = rw (c.before.before.before.before.before.before.before.before.widest.ensures, c.before.before.before.before.before.before.before.greater-option.ensures, c.greater.ensures)
+returns c = rw (c.widest-columns.ensures, c.greater_option-dimensionality.ensures, c.greater.ensures)
 
 pub pool_head_spec : {M : Type 1} → statement M
 pool_head_spec = tie.close (tie.spec (λ c κs. search rules) (λ c κs. search rules) (λ c κs. search rules) returns)

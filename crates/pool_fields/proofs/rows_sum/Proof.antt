@@ -5,30 +5,25 @@ use Rattle.shape.specs.Shape.{rows_sum}
 use Rattle.pool_fields.proofs.rows_sum.Statement.{statement}
 use Rattle.pool_fields.proofs.rows_sum.Tie as tie
 
-returns : tie.Need-returns
+returns : tie.Need-returns-in_default
 unfolding rows_sum
-returns c = rw c.enum_told.given.1
+returns c = rw c.in_default.is
 
-returns-2 : tie.Need-returns-2
+returns-2 : tie.Need-returns-in_default-y
 unfolding rows_sum
-returns-2 c = rw (c.before.before.before.x.given.1, c.enum-told2.given.1)
+returns-2 c = rw (c.in-Is.is, c.in_default-y.is)
 
-returns-3 : tie.Need-returns-3
+returns-3 : tie.Need-returns-in_default-checked_add
 unfolding rows_sum
 returns-3 c =
-    let x = c.before.before.before.before.before.before.before.x.given in
-    let y = c.before.before.before.before.y.given in
-    let sum = rw (reads x.0.0 (search rules), reads y.0.0 (search rules)) at c.before.before.checked-add.ensures in
-    rw (x.1, y.1, ← sum, c.enum-told3.given.1)
+    let sum = rw (reads c.in-Is.a (search rules), reads c.in-Is-y.b (search rules)) at c.checked_add.ensures in
+    rw (c.in-Is.is, c.in-Is-y.is, ← sum, c.in_default-checked_add.is)
 
-returns-4 : tie.Need-returns-4
+returns-4 : tie.Need-returns
 unfolding rows_sum
 returns-4 c =
-    let x = c.before.before.before.before.before.before.before.before.x.given in
-    let y = c.before.before.before.before.before.y.given in
-    let sum = rw (reads x.0.0 (search rules), reads y.0.0 (search rules)) at c.before.before.before.checked-add.ensures in
-    let n = c.before.n.given in
-    rw (x.1, y.1, ← sum, n.1, reads n.0.0 (search rules))
+    let sum = rw (reads c.in-Is.a (search rules), reads c.in-Is-y.b (search rules)) at c.checked_add.ensures in
+    rw (c.in-Is.is, c.in-Is-y.is, ← sum, c.in-Fits.is, reads c.in-Fits.n (search rules))
 
 pub rows_sum_spec : {M : Type 1} → statement M
 rows_sum_spec =

@@ -22,78 +22,73 @@ use Rattle.pool_nature.proofs.Natures.{united_textless, united_texts}
 use Rattle.pool_nature.proofs.united_categorical_nature.Statement.{statement}
 use Rattle.pool_nature.proofs.united_categorical_nature.Tie as tie
 
-returns : tie.Need-returns
+returns : tie.Need-returns-then-k-ne0
 returns c =
-    let a = c.before.before.before.before.before.before.before.args in
+    let a = c.args in
     let F = form_of a.f in
-    let e = union_fails a.columns (nature_in F a.left.now) (nature_in F a.right.now) c.before.both-lists-code.ensures c.if1.true in
+    let e = union_fails a.columns (nature_in F a.left.now) (nature_in F a.right.now) c.both_lists_code-k.ensures c.if-k-ne0.true in
     (ap (in_writing F) (sym (then_refused (kept F) e)), tt)
 
 -- 19, 20, 29 and 21 have passed
-none : (c : tie.Else1) → let a = c.before.before.before.before.before.before.before.args in first_failing (both_list_checks a.columns (nature_in (form_of a.f) a.left.now) (nature_in (form_of a.f) a.right.now)) ≡ 0
-none c = sym c.before.both-lists-code.ensures ∙ c.if1.false
+none : (c : tie.Else-k-ne0) → let a = c.args in first_failing (both_list_checks a.columns (nature_in (form_of a.f) a.left.now) (nature_in (form_of a.f) a.right.now)) ≡ 0
+none c = sym c.both_lists_code-k.ensures ∙ c.if-k-ne0.false
 
-pass : (c : tie.Else1) → let a = c.before.before.before.before.before.before.before.args in Joint (form_of a.f) a.left.now a.right.now
-pass c = joint c.before.before.before.before.before.before.before.requires.0.0 c.before.before.before.before.before.before.before.requires.0.1 c.before.before.before.before.before.before.before.args.columns (none c)
+pass : (c : tie.Else-k-ne0) → let a = c.args in Joint (form_of a.f) a.left.now a.right.now
+pass c = joint c.requires.0.0 c.requires.0.1 c.args.columns (none c)
 
 -- texts
-text : (c : tie.Then2) → let a = c.before.before.before.before.before.before.before.before.before.args in byte_at (form_of a.f) nature_at a.left.now ≡ 6
-text c = sym c.before.nature-of.ensures ∙ c.if2.true
+text : (c : tie.Then-nature_of-eq-TEXT_LISTS) → let a = c.args in byte_at (form_of a.f) nature_at a.left.now ≡ 6
+text c = sym c.nature_of.ensures ∙ c.if-nature_of-eq-TEXT_LISTS.true
 
-texts : (c : tie.Then2) → let a = c.before.before.before.before.before.before.before.before.before.args in joins_texts Fam.Pool (form_of a.f) a.left.now a.right.now ≡ true
+texts : (c : tie.Then-nature_of-eq-TEXT_LISTS) → let a = c.args in joins_texts Fam.Pool (form_of a.f) a.left.now a.right.now ≡ true
 texts c =
-    let a = c.before.before.before.before.before.before.before.before.before.args in
+    let a = c.args in
     let p = pass c.before.before in
-    texts_joined (form_of a.f) a.left.now a.right.now (inr refl) (texts_held p.left-fine.lists.read (text c)) (texts_held p.right-fine.lists.read (sym p.same ∙ text c))
+    texts_joined (form_of a.f) a.left.now a.right.now (inr refl) (texts_held p.left_fine.lists.read (text c)) (texts_held p.right_fine.lists.read (sym p.same ∙ text c))
 
-texts-together-requires : tie.Need-texts-together-requires
+texts-together-requires : tie.Need-texts_together-requires
 texts-together-requires c κs =
-    let s = c.before.before.before.before.before in
-    let start = s.before.before.before.before.before.before.before.before.before in
-    let ready = start.requires.0.2 in
-    let p = pass s.before.before in
-    let x = p.left-fine in
-    let y = p.right-fine in (
+    let ready = c.requires.0.2 in
+    let p = pass c.before.before.before.before.before.before.before in
+    let x = p.left_fine in
+    let y = p.right_fine in (
       (
         record {
-          lefts = record { listed = fine_listed x; fields = x.lists.read.fields; is_text_lem = text s };
-          rights = record { listed = fine_listed y; fields = y.lists.read.fields; is_text_lem = sym p.same ∙ text s };
+          lefts = record { listed = fine_listed x; fields = x.lists.read.fields; is_text_lem = text c.before.before.before.before.before };
+          rights = record { listed = fine_listed y; fields = y.lists.read.fields; is_text_lem = sym p.same ∙ text c.before.before.before.before.before };
         },
-        ready.some-column,
+        ready.some_column,
         ready.within,
       ),
-      start.requires.1.texts (texts s),
+      c.requires.1.texts (texts c.before.before.before.before.before),
     )
 
-returns-2 : tie.Need-returns-2
+returns-2 : tie.Need-returns-then-nature_of-eq-TEXT_LISTS
 returns-2 c =
-    let s = c.before.before.before.before.before.before.before.before.before.before.before.before.before in
-    let a = s.before.before.before.before.before.before.before.before.before.args in
+    let a = c.args in
     let F = form_of a.f in
     let left = a.left.now in
     let right = a.right.now in
-    let call = c.before.before.before.before.before.before.before.texts-together.ensures in
-    let e = union_joins a.columns (nature_in F left) (nature_in F right) (none s.before.before) in
-    let h = united_texts F a.columns left right (text s) (sym (pass s.before.before).same ∙ text s) in
-    (call.0 ∙ ap (in_writing F) (h ∙ ap (λ (g : Result Nature). and_then g (kept F)) (sym e)), rw (texts_room_lem Fam.Pool F left right (texts s)) call.1)
+    let call = c.texts_together.ensures in
+    let e = union_joins a.columns (nature_in F left) (nature_in F right) (none c.before.before.before.before.before.before.before.before.before.before.before.before.before.before.before) in
+    let h = united_texts F a.columns left right (text c.before.before.before.before.before.before.before.before.before.before.before.before.before) (sym (pass c.before.before.before.before.before.before.before.before.before.before.before.before.before.before.before).same ∙ text c.before.before.before.before.before.before.before.before.before.before.before.before.before) in
+    (call.0 ∙ ap (in_writing F) (h ∙ ap (λ (g : Result Nature). and_then g (kept F)) (sym e)), rw (texts_room_lem Fam.Pool F left right (texts c.before.before.before.before.before.before.before.before.before.before.before.before.before)) call.1)
 
 -- whole or bool categories
-other : (c : tie.Else2) → let a = c.before.before.before.before.before.before.before.before.before.args in byte_at (form_of a.f) nature_at a.left.now ≡ 6 → ⊥
-other c e = c.if2.false (c.before.nature-of.ensures ∙ e)
+other : (c : tie.Else-nature_of-eq-TEXT_LISTS) → let a = c.args in byte_at (form_of a.f) nature_at a.left.now ≡ 6 → ⊥
+other c e = c.if-nature_of-eq-TEXT_LISTS.false (c.nature_of.ensures ∙ e)
 
-joins : (c : tie.Else2) → let a = c.before.before.before.before.before.before.before.before.before.args in joins_lists Fam.Pool (form_of a.f) a.left.now a.right.now ≡ true
+joins : (c : tie.Else-nature_of-eq-TEXT_LISTS) → let a = c.args in joins_lists Fam.Pool (form_of a.f) a.left.now a.right.now ≡ true
 joins c =
     let p = pass c.before.before in
-    pooled refl (fine_listed p.left-fine) (categories p.left-fine) (fine_listed p.right-fine) (categories p.right-fine)
+    pooled refl (fine_listed p.left_fine) (categories p.left_fine) (fine_listed p.right_fine) (categories p.right_fine)
 
-lists-united-requires : tie.Need-lists-united-requires
+lists-united-requires : tie.Need-lists_united-requires
 lists-united-requires c κs =
-    let s = c.before.before.before.before.before.before in
-    let start = s.before.before.before.before.before.before.before.before.before in
-    let ready = start.requires.0.2 in
-    let p = pass s.before.before in
-    let x = p.left-fine in
-    let y = p.right-fine in (
+    let ready = c.requires.0.2 in
+    let p = pass c.before.before.before.before.before.before.before.before in
+    let x = p.left_fine in
+    let y = p.right_fine in (
       (
         record {
           left_listed = fine_listed x;
@@ -101,27 +96,26 @@ lists-united-requires c κs =
           left_fields = x.lists.read.fields;
           right_fields = y.lists.read.fields;
           same = p.same;
-          joins = no_text x (other s);
+          joins = no_text x (other c.before.before.before.before.before.before);
         },
-        ready.some-column,
+        ready.some_column,
         ready.within,
       ),
-      used (joins s) start.requires.1,
+      used (joins c.before.before.before.before.before.before) c.requires.1,
     )
 
-returns-3 : tie.Need-returns-3
+returns-3 : tie.Need-returns
 returns-3 c =
-    let s = c.before.before.before.before.before.before.before.before.before.before.before.before.before.before.before.before in
-    let a = s.before.before.before.before.before.before.before.before.before.args in
+    let a = c.args in
     let F = form_of a.f in
     let left = a.left.now in
     let right = a.right.now in
     let l = nature_in F left in
     let r = nature_in F right in
-    let united = c.before.before.before.before.before.before.before.before.before.lists-united in
-    let e = union_joins a.columns l r (none s.before.before) in
-    let h = united_textless F a.columns l r (λ z. other s (sym (number_of F left (pass s.before.before).left-fine.lists.read) ∙ z)) in
-    let room = subst (λ (n : ℕ). n ≤ nature_room Fam.Pool F left right) (lists_room_lem Fam.Pool F left right (joins s)) (nature_room_lem (laid a.f) Fam.Pool left right) in
+    let united = c.lists_united in
+    let e = union_joins a.columns l r (none c.before.before.before.before.before.before.before.before.before.before.before.before.before.before.before.before.before.before) in
+    let h = united_textless F a.columns l r (λ z. other c.before.before.before.before.before.before.before.before.before.before.before.before.before.before.before.before (sym (number_of F left (pass c.before.before.before.before.before.before.before.before.before.before.before.before.before.before.before.before.before.before).left-fine.lists.read) ∙ z)) in
+    let room = subst (λ (n : ℕ). n ≤ nature_room Fam.Pool F left right) (lists_room_lem Fam.Pool F left right (joins c.before.before.before.before.before.before.before.before.before.before.before.before.before.before.before.before)) (nature_room_lem (laid a.f) Fam.Pool left right) in
     (united.ensures.0 ∙ ap (in_writing F) (h ∙ ap (λ (g : Result Nature). and_then g (kept F)) (sym e)), wider F _ _ room united.result united.ensures.1)
 
 pub united_categorical_nature_spec : {M : Type 1} → statement M
@@ -130,7 +124,7 @@ united_categorical_nature_spec =
     (tie.spec
     (λ c κs. search rules)
     returns
-    (λ c κs. stands c.before.before.before.before.before.before.before.requires.0.0.read)
+    (λ c κs. stands c.requires.0.0.read)
     texts-together-requires
     (λ c. search rules)
     (λ c. search rules)

@@ -35,21 +35,21 @@ by_number C.Power type x y = refl
 by_number C.Negative type x y = refl
 by_number C.Pool type x y = refl
 
-returns : tie.Need-returns
+returns : tie.Need-returns-then-float
 unfolding column_ends
-returns c = rw c.before.if1.taken c.float-end-rule.ensures
+returns c = rw c.if-float.true c.float_end_rule.ensures
 
-returns-2 : tie.Need-returns-2
+returns-2 : tie.Need-returns-then-number-data_type
 unfolding column_ends
 returns-2 c =
-    let modulo = rw c.before.before.number.ensures at c.before.if2.taken in
-    rw (c.before.before.before.if1.left, by_number, modulo) c.unknown.ensures
+    let modulo = rw c.number.ensures at c.if-number-data_type.true in
+    rw (c.if-float.false, by_number, modulo) c.unknown.ensures
 
-returns-3 : tie.Need-returns-3
+returns-3 : tie.Need-returns
 unfolding column_ends
 returns-3 c =
-    let other = rw c.before.before.number.ensures at c.before.if2.left in
-    rw (c.before.before.before.if1.left, by_number, other) c.whole-end-rule.ensures
+    let other = rw c.number.ensures at c.if-number-data_type.false in
+    rw (c.if-float.false, by_number, other) c.whole_end_rule.ensures
 
 pub column_spec : {M : Type 1} → statement M
 column_spec =

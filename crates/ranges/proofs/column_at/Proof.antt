@@ -9,11 +9,9 @@ unfolding column_at
 returns c =
     let y = c.before in
     let k = y.before in
-    let x = k.before in
-    let i = x.before in
-    let p = i.before.before.before.pre in
-    let left = rw (i.entry_of.ensures.0, p.0.lists) at x.entry_at.ensures in
-    let right = rw (k.entry-of2.ensures.0, p.2.lists) at y.entry-at2.ensures in
+    let p = c.requires in
+    let left = rw (c.entry_of-i.ensures.0, p.0.lists) at c.entry_at-x.ensures in
+    let right = rw (c.entry_of-k.ensures.0, p.2.lists) at c.entry_at-y.ensures in
     rw (left, right) at c.column.ensures
 
 pub column_at_spec : {M : Type 1} → statement M

@@ -8,15 +8,15 @@ use Rattle.ranges.proofs.Spread.{only_entry, own_entry}
 use Rattle.ranges.proofs.entry_of.Statement.{statement}
 use Rattle.ranges.proofs.entry_of.Tie as tie
 
-returns : tie.Need-returns
-returns c = let a = c.before.args in (sym (only_entry a.n a.j c.if1.taken), omega arith)
+returns : tie.Need-returns-then-n-eq1
+returns c = let a = c.args in (sym (only_entry a.n a.j c.if-n-eq1.true), omega arith)
 
-returns-2 : tie.Need-returns-2
+returns-2 : tie.Need-returns-else-n-eq1
 returns-2 c =
-    let a = c.before.args in
-    let p = c.before.pre in
-    let within : a.j < a.n = ⊎_elim (λ e. absurd (c.if1.left e)) (λ e. omega (arith, p.1)) (one_or_each a.columns a.n p.0) in
-    (sym (own_entry a.n a.j c.if1.left), within)
+    let a = c.args in
+    let p = c.requires in
+    let within : a.j < a.n = ⊎_elim (λ e. absurd (c.if-n-eq1.false e)) (λ e. omega (arith, p.1)) (one_or_each a.columns a.n p.0) in
+    (sym (own_entry a.n a.j c.if-n-eq1.false), within)
 
 pub entry_of_spec : {M : Type 1} → statement M
 entry_of_spec = tie.close (tie.spec returns returns-2)

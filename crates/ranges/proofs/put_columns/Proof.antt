@@ -12,60 +12,55 @@ use Rattle.ranges.proofs.Chain.{Chaining, chain_start, chain_more, chain_refused
 use Rattle.ranges.proofs.put_columns.Statement.{statement}
 use Rattle.ranges.proofs.put_columns.Tie as tie
 
-abbrev invariant-loop : tie.invariant-loop
+abbrev invariant-loop : tie.invariant-loop-j
 invariant-loop f c data-type float columns left l right r lowers₀ uppers₀ at₀ j₀ lowers uppers at j =
     (j ≤ columns) × (length lowers ≡ length lowers₀) × (length uppers ≡ length uppers₀)
     × Chaining (range_number float) (column_at (form_of f) float c data-type left right) columns j at lowers uppers
 
-abbrev decreases-loop : tie.decreases-loop
+abbrev decreases-loop : tie.decreases-loop-j
 decreases-loop f c data-type float columns left l right r lowers₀ uppers₀ at₀ j₀ lowers uppers at j = columns - j
 
-loop-holds : tie.Need-loop-init invariant-loop decreases-loop
+loop-holds : tie.Need-loop-j-init invariant-loop decreases-loop
 loop-holds c =
-    let a = c.before.before.before.before.args in
-    let ends = column_at (form_of a.f) a.float a.c a.data-type a.left.now a.right.now in
+    let a = c.args in
+    let ends = column_at (form_of a.f) a.float a.c a.data_type a.left.now a.right.now in
     (omega arith, refl, refl, chain_start (range_number a.float) ends a.columns a.lowers.now a.uppers.now)
 
-returns : tie.Need-returns invariant-loop decreases-loop
+returns : tie.Need-returns-in-Refused invariant-loop decreases-loop
 returns c =
-    let col = c.before.before.before in
-    let l = col.before.before.loop in
-    let a = col.before.before.before.before.before.before.before.args in
-    let ends = column_at (form_of a.f) a.float a.c a.data-type a.left.now a.right.now in
-    let e = c.before.e.given in
-    (sym (chain_refused (range_number a.float) ends a.columns l.invariant.3 col.before.loop-test.true col.column-at.ensures e.1), tt)
+    let l = c.loop-j in
+    let a = c.args in
+    let ends = column_at (form_of a.f) a.float a.c a.data_type a.left.now a.right.now in
+    (sym (chain_refused (range_number a.float) ends a.columns l.invariant.3 c.loop-j-test.true c.column_at-e.ensures c.in-Refused.is), tt)
 
-loop-again : tie.Need-loop-preserved invariant-loop decreases-loop
+loop-again : tie.Need-loop-j-preserved invariant-loop decreases-loop
 loop-again c =
     let second = c.before.before in
     let first = second.before.before.before.before in
-    let told = first.before.before.before in
-    let col = told.before.before in
-    let l = col.before.before.loop in
-    let a = col.before.before.before.before.before.before.before.args in
-    let ends = column_at (form_of a.f) a.float a.c a.data-type a.left.now a.right.now in
-    let e = told.e2.given in (
+    let l = c.loop-j in
+    let a = c.args in
+    let ends = column_at (form_of a.f) a.float a.c a.data_type a.left.now a.right.now in (
       omega arith,
-      first.put-bound.auto.0 ∙ l.invariant.1,
-      second.put-bound2.auto.0 ∙ l.invariant.2,
-      chain_more (range_number a.float) ends a.columns l.invariant.3 col.before.loop-test.true col.column-at.ensures e.1 first.put-bound.ensures second.put-bound2.ensures,
+      c.put_bound.auto.buf ∙ l.invariant.1,
+      c.put_bound-at.auto.buf ∙ l.invariant.2,
+      chain_more (range_number a.float) ends a.columns l.invariant.3 c.loop-j-test.true c.column_at-e.ensures c.in-Are.is c.put_bound.ensures c.put_bound-at.ensures,
     )
 
-range-parts-requires : tie.Need-range-parts-requires invariant-loop decreases-loop
+range-parts-requires : tie.Need-range_parts-requires invariant-loop decreases-loop
 range-parts-requires c κs =
-    let f = c.before.before.before.before.before.before.args.f in
+    let f = c.args.f in
     let k = laid f in
     let b = small f in
     search rules
 
-returns-2 : tie.Need-returns-2 invariant-loop decreases-loop
+returns-2 : tie.Need-returns invariant-loop decreases-loop
 returns-2 c =
-    let l = c.before.before.loop in
-    let a = c.before.before.before.before.before.before.before.args in
-    let ends = column_at (form_of a.f) a.float a.c a.data-type a.left.now a.right.now in
+    let l = c.loop-j in
+    let a = c.args in
+    let ends = column_at (form_of a.f) a.float a.c a.data_type a.left.now a.right.now in
     let k = laid a.f in (
-      rw c.range-parts.ensures (sym (chain_done (range_number a.float) ends a.columns l.invariant.3 (omega arith))),
-      rw c.range-parts.ensures (omega arith),
+      rw c.range_parts.ensures (sym (chain_done (range_number a.float) ends a.columns l.invariant.3 (omega arith))),
+      rw c.range_parts.ensures (omega arith),
     )
 
 pub put_columns_spec : {M : Type 1} → statement M

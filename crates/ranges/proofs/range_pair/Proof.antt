@@ -16,58 +16,51 @@ use Rattle.ranges.proofs.range_pair.Tie as tie
 counted : (columns : ℕ) {n m : ℕ} {r t : Bool} → n ≡ m → r ≡ spreads columns n → not r ≡ t → not (spreads columns m) ≡ t
 counted columns e s h = ap (λ (k : ℕ). not (spreads columns k)) (sym e) ∙ ap not (sym s) ∙ h
 
-returns : tie.Need-returns
+returns : tie.Need-returns-then-not-spreads
 unfolding checked
 returns c =
-    let z = c.before.before in
-    let a = z.before.before.before.before.before.args in
-    let uneven = counted a.columns z.sizes-at.ensures.lists c.before.spreads.ensures c.if1.taken in
-    (rw (derived_is (form_of a.f) a.float a.c a.data-type a.columns a.left.now a.right.now, uneven), tt)
+    let a = c.args in
+    let uneven = counted a.columns c.sizes_at-l.ensures.lists c.spreads.ensures (ap not c.if-not-spreads.true) in
+    (rw (derived_is (form_of a.f) a.float a.c a.data_type a.columns a.left.now a.right.now, uneven), tt)
 
-returns-2 : tie.Need-returns-2
+returns-2 : tie.Need-returns-then-not-spreads-2
 unfolding checked
 returns-2 c =
     let y = c.before.before in
-    let x = y.before in
-    let z = x.before.before in
-    let a = z.before.before.before.before.before.args in
-    let even = counted a.columns z.sizes-at.ensures.lists x.before.spreads.ensures x.if1.left in
-    let uneven = counted a.columns y.sizes-at2.ensures.lists c.before.spreads2.ensures c.if2.taken in
-    (rw (derived_is (form_of a.f) a.float a.c a.data-type a.columns a.left.now a.right.now, even, uneven), tt)
+    let a = c.args in
+    let even = counted a.columns c.sizes_at-l.ensures.lists c.spreads.ensures (ap not c.if-not-spreads.false) in
+    let uneven = counted a.columns c.sizes_at-r.ensures.lists c.spreads-2.ensures (ap not c.if-not-spreads-2.true) in
+    (rw (derived_is (form_of a.f) a.float a.c a.data_type a.columns a.left.now a.right.now, even, uneven), tt)
 
-put-columns-requires : tie.Need-put-columns-requires
+put-columns-requires : tie.Need-put_columns-requires
 put-columns-requires c κs =
     let w = c.before.before in
     let y = w.before.before in
     let x = y.before in
-    let z = x.before.before in
-    let b = z.before.before.before.before.before in
-    let p = b.pre in
-    let n = z.sizes-at.result.lists in
-    let m = y.sizes-at2.result.lists in
-    let columns = b.args.columns in (
-      range_fits (sized (form_of b.args.f) b.args.left.now p.0 z.sizes-at.ensures) p.1,
-      not-false (spreads columns n) (counted columns refl x.before.spreads.ensures x.if1.left),
-      range_fits (sized (form_of b.args.f) b.args.right.now p.2 y.sizes-at2.ensures) p.3,
-      not-false (spreads columns m) (counted columns refl w.before.spreads2.ensures w.if2.left),
+    let p = c.requires in
+    let n = c.sizes_at-l.result.lists in
+    let m = c.sizes_at-r.result.lists in
+    let columns = c.args.columns in (
+      range_fits (sized (form_of c.args.f) c.args.left.now p.0 c.sizes_at-l.ensures) p.1,
+      not-false (spreads columns n) (counted columns refl c.spreads.ensures (ap not c.if-not-spreads.false)),
+      range_fits (sized (form_of c.args.f) c.args.right.now p.2 c.sizes_at-r.ensures) p.3,
+      not-false (spreads columns m) (counted columns refl c.spreads-2.ensures (ap not c.if-not-spreads-2.false)),
       p.4,
       p.5,
       p.6,
     )
 
-returns-3 : tie.Need-returns-3
+returns-3 : tie.Need-returns
 unfolding checked
 returns-3 c =
     let d = c.before.before.before.before in
     let w = d.before.before.before in
     let y = w.before.before in
-    let x = y.before in
-    let z = x.before.before in
-    let a = z.before.before.before.before.before.args in
-    let left = counted a.columns z.sizes-at.ensures.lists x.before.spreads.ensures x.if1.left in
-    let right = counted a.columns y.sizes-at2.ensures.lists w.before.spreads2.ensures w.if2.left in (
-      rw (derived_is (form_of a.f) a.float a.c a.data-type a.columns a.left.now a.right.now, left, right) d.put-columns.ensures.0,
-      d.put-columns.ensures.1,
+    let a = c.args in
+    let left = counted a.columns c.sizes_at-l.ensures.lists c.spreads.ensures (ap not c.if-not-spreads.false) in
+    let right = counted a.columns c.sizes_at-r.ensures.lists c.spreads-2.ensures (ap not c.if-not-spreads-2.false) in (
+      rw (derived_is (form_of a.f) a.float a.c a.data_type a.columns a.left.now a.right.now, left, right) c.put_columns.ensures.0,
+      c.put_columns.ensures.1,
     )
 
 pub range_pair_spec : {M : Type 1} → statement M

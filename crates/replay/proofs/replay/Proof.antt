@@ -6,29 +6,29 @@ use Rattle.lines.specs.Window.{Open, Inside}
 use Rattle.replay.proofs.replay.Statement.{statement}
 use Rattle.replay.proofs.replay.Tie as tie
 
-abbrev invariant-loop : tie.invariant-loop
+abbrev invariant-loop : tie.invariant-loop-turns
 invariant-loop list fd buf₀ tally₀ window₀ turns₀ buf tally window turns = Open window (length buf) × (length buf ≡ length buf₀)
 
-abbrev decreases-loop : tie.decreases-loop
+abbrev decreases-loop : tie.decreases-loop-turns
 decreases-loop list fd buf₀ tally₀ window₀ turns₀ buf tally window turns = turns
 
-same_length : tie.Need-same-length invariant-loop decreases-loop
-same_length c = c.before.before.before.before.next.auto.1.0 ∙ c.before.before.before.before.before.before.before.loop.invariant.1
+same_length : tie.Need-shape_of-buf-in_default invariant-loop decreases-loop
+same_length c = c.next-line.auto.buf ∙ c.loop-turns.invariant.1
 
-sub-judged : tie.Need-overflow-sub-judged invariant-loop decreases-loop
-sub-judged c = let inside = subst (λ (l : Line). Inside l (length c.before.before.before.before.before.next.new.1.0)) c.before.line.given.1 c.before.before.before.before.before.next.ensures in omega arith
+sub-judged : tie.Need-slice_bounds-judged-count invariant-loop decreases-loop
+sub-judged c = let inside = subst (λ (l : Line). Inside l (length c.next-line.new.buf)) c.in-Is.is c.next-line.ensures in omega arith
 
 part-judged-start : tie.Need-slice-bounds-judged-start invariant-loop decreases-loop
-part-judged-start c = let inside = subst (λ (l : Line). Inside l (length c.before.before.before.before.before.before.next.new.1.0)) c.before.before.line.given.1 c.before.before.before.before.before.before.next.ensures in omega arith
+part-judged-start c = let inside = subst (λ (l : Line). Inside l (length c.before.before.before.before.before.before.next-line.new.buf)) c.before.before.in-Is.is c.before.before.before.before.before.before.next-line.ensures in omega arith
 
 part-judged-end : tie.Need-slice-bounds-judged-end invariant-loop decreases-loop
-part-judged-end c = let inside = subst (λ (l : Line). Inside l (length c.before.before.before.before.before.before.next.new.1.0)) c.before.before.line.given.1 c.before.before.before.before.before.before.next.ensures in omega arith
+part-judged-end c = let inside = subst (λ (l : Line). Inside l (length c.before.before.before.before.before.before.next-line.new.buf)) c.before.before.in-Is.is c.before.before.before.before.before.before.next-line.ensures in omega arith
 
-loop-again : tie.Need-loop-preserved invariant-loop decreases-loop
-loop-again c = ((subst (λ (l : Line). Inside l (length c.before.before.before.before.before.before.before.before.before.before.next.new.1.0)) c.before.before.before.before.before.before.line.given.1 c.before.before.before.before.before.before.before.before.before.before.next.ensures).2, c.before.before.before.before.before.before.before.before.before.before.next.auto.1.0 ∙ c.before.before.before.before.before.before.before.before.before.before.before.before.before.loop.invariant.1)
+loop-again : tie.Need-loop-turns-preserved invariant-loop decreases-loop
+loop-again c = ((subst (λ (l : Line). Inside l (length c.next-line.new.buf)) c.in-Is.is c.next-line.ensures).2, c.next-line.auto.buf ∙ c.loop-turns.invariant.1)
 
-same-length-2 : tie.Need-same-length-2 invariant-loop decreases-loop
-same-length-2 c = c.before.loop.invariant.1
+same-length-2 : tie.Need-shape_of-buf invariant-loop decreases-loop
+same-length-2 c = c.loop-turns.invariant.1
 
 pub replay_spec : {M : Type 1} → statement M
 replay_spec =

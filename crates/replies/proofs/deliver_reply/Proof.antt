@@ -2,7 +2,7 @@
 use mathlib.Core.Path.{sym, ap, ◌∙◌}
 use native.Mathlib.Omega.{arith}
 use borrow.Author.Rules.{rules}
-use Rattle.bytes.specs.declared.Put.{Put}
+use Rattle.octets.specs.declared.Put.{Put}
 use Rattle.deliveries.specs.Code.{given}
 use Rattle.replies.proofs.Packed.{reply_is}
 use Rattle.replies.proofs.deliver_reply.Statement.{statement}
@@ -10,23 +10,18 @@ use Rattle.replies.proofs.deliver_reply.Tie as tie
 
 reply-requires : tie.Need-reply-requires
 reply-requires c κs =
-    let done = c.before.before.before.before.before in
-    let held = rw c.before.delivered.given.1 at done.deliver-sheet.ensures.1 in
+    let held = rw c.in-At.is at c.deliver_sheet-delivered.ensures.1 in
     omega arith
 
-returns : tie.Need-returns
+returns : tie.Need-returns-in-At
 returns c =
-    let told = c.before.before.delivered.given in
-    let done = c.before.before.before.before.before.before in
-    let out = done.deliver-sheet.new.1.1.0 in
-    reply_is 0 told.0.0 out (omega arith) c.reply.ensures ∙ sym (ap (λ (p : Put). given p out) told.1) ∙ done.deliver-sheet.ensures.0
+    let out = c.deliver_sheet-delivered.new.out in
+    reply_is 0 c.in-At.n out (omega arith) c.reply.ensures ∙ sym (ap (λ (p : Put). given p out) c.in-At.is) ∙ c.deliver_sheet-delivered.ensures.0
 
-returns-2 : tie.Need-returns-2
+returns-2 : tie.Need-returns-in-Refused
 returns-2 c =
-    let told = c.before.before.delivered2.given in
-    let done = c.before.before.before.before.before.before in
-    let out = done.deliver-sheet.new.1.1.0 in
-    reply_is told.0.0 0 out (search rules) c.reply2.ensures ∙ sym (ap (λ (p : Put). given p out) told.1) ∙ done.deliver-sheet.ensures.0
+    let out = c.deliver_sheet-delivered.new.out in
+    reply_is c.in-Refused.k 0 out (search rules) c.reply-in-Refused.ensures ∙ sym (ap (λ (p : Put). given p out) c.in-Refused.is) ∙ c.deliver_sheet-delivered.ensures.0
 
 pub deliver_reply_spec : {M : Type 1} → statement M
 deliver_reply_spec =

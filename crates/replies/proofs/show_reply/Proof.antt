@@ -2,7 +2,7 @@
 use mathlib.Core.Path.{sym, ap, ◌∙◌}
 use native.Mathlib.Omega.{arith}
 use borrow.Author.Rules.{rules}
-use Rattle.bytes.specs.Deliver.{delivered}
+use Rattle.octets.specs.Deliver.{delivered}
 use Rattle.base.specs.Form.{narrow}
 use Rattle.plan_form.specs.Form.{no_node}
 use Rattle.calls.specs.Walk.{sheet_in}
@@ -11,29 +11,23 @@ use Rattle.replies.proofs.Showing.{sheet_long, sheet_lent, shown_whole, shown_sh
 use Rattle.replies.proofs.show_reply.Statement.{statement}
 use Rattle.replies.proofs.show_reply.Tie as tie
 
-returns : tie.Need-returns
+returns : tie.Need-returns-then-deliver
 returns c =
-    let done = c.before.before.before.before in
-    let found = done.before.before.before in
-    let start = found.before.before.before in
-    let a = start.args in
+    let a = c.args in
     let s = sheet_in narrow a.k a.work.now in
-    let e = found.sheet-end.ensures in
-    let after = done.deliver.ensures.1 ∙ ap (delivered a.out.now) (sheet_lent a.work.now a.k _ start.requires e) in
+    let e = c.sheet_end-end.ensures in
+    let after = c.deliver.ensures.1 ∙ ap (delivered a.out.now) (sheet_lent a.work.now a.k _ c.requires e) in
     reply_is 0 _ _ (omega arith) c.reply.ensures
-    ∙ shown_whole s a.out.now (sheet_long a.work.now a.k _ start.requires e) after (sym done.deliver.ensures.0 ∙ c.before.if1.true)
+    ∙ shown_whole s a.out.now (sheet_long a.work.now a.k _ c.requires e) after (sym c.deliver.ensures.0 ∙ c.if-deliver.true)
 
-returns-2 : tie.Need-returns-2
+returns-2 : tie.Need-returns
 returns-2 c =
-    let done = c.before.before.before.before in
-    let found = done.before.before.before in
-    let start = found.before.before.before in
-    let a = start.args in
+    let a = c.args in
     let s = sheet_in narrow a.k a.work.now in
-    let e = found.sheet-end.ensures in
-    let after = done.deliver.ensures.1 ∙ ap (delivered a.out.now) (sheet_lent a.work.now a.k _ start.requires e) in
-    reply_is 27 no_node _ (omega arith) c.reply2.ensures
-    ∙ shown_short s a.out.now (sheet_long a.work.now a.k _ start.requires e) after (sym done.deliver.ensures.0 ∙ c.before.if1.false)
+    let e = c.sheet_end-end.ensures in
+    let after = c.deliver.ensures.1 ∙ ap (delivered a.out.now) (sheet_lent a.work.now a.k _ c.requires e) in
+    reply_is 27 no_node _ (omega arith) c.reply-2.ensures
+    ∙ shown_short s a.out.now (sheet_long a.work.now a.k _ c.requires e) after (sym c.deliver.ensures.0 ∙ c.if-deliver.false)
 
 pub show_reply_spec : {M : Type 1} → statement M
 show_reply_spec =

@@ -10,26 +10,24 @@ use Rattle.replies.proofs.walked_reply.Tie as tie
 
 reply-requires : tie.Need-reply-requires
 reply-requires c κs =
-    let small = rw c.before.answer.given.1 at c.before.before.before.requires in
+    let small = rw c.in-Accepted.is at c.requires in
     omega arith
 
-reply-requires-2 : tie.Need-reply-requires-2
+reply-requires-2 : tie.Need-reply-requires-in-Refused
 reply-requires-2 c κs =
-    let small = rw c.before.answer2.given.1 at c.before.before.before.requires in
+    let small = rw c.in-Refused.is at c.requires in
     omega arith
 
-returns : tie.Need-returns
+returns : tie.Need-returns-in-Accepted
 returns c nodes p work =
-    let told = c.before.before.answer.given in
-    reply_is 0 told.0.0 work (omega arith) c.reply.ensures ∙ sym (ap (λ (w : Walked). walked nodes p w work) told.1)
+    reply_is 0 c.in-Accepted.nodes work (omega arith) c.reply.ensures ∙ sym (ap (λ (w : Walked). walked nodes p w work) c.in-Accepted.is)
 
-returns-2 : tie.Need-returns-2
+returns-2 : tie.Need-returns-in-Refused
 returns-2 c nodes p work =
-    let told = c.before.before.answer2.given in
-    reply_is told.0.0 told.0.1.0 work (search rules) c.reply2.ensures ∙ sym (ap (λ (w : Walked). walked nodes p w work) told.1)
+    reply_is c.in-Refused.k c.in-Refused.node work (search rules) c.reply-in-Refused.ensures ∙ sym (ap (λ (w : Walked). walked nodes p w work) c.in-Refused.is)
 
-returns-3 : tie.Need-returns-3
-returns-3 c = absurd (rw c.before.answer3.given.1 at c.before.before.before.requires)
+returns-3 : tie.Need-returns-in-Next
+returns-3 c = absurd (rw c.in-Next.is at c.requires)
 
 pub walked_reply_spec : {M : Type 1} → statement M
 walked_reply_spec =

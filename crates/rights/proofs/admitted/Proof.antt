@@ -18,13 +18,13 @@ use Rattle.rights.proofs.Admitting.{call_passed, reveal_fails, reveal_short, rev
 use Rattle.rights.proofs.admitted.Statement.{statement}
 use Rattle.rights.proofs.admitted.Tie as tie
 
-returns : tie.Need-returns
+returns : tie.Need-returns-then-call_fails
 returns c =
-    let a = c.before.before.before.before.before.args in
-    (λ out. sym (reveal_fails a.plan.now a.owners.now a.reader a.wanted a.work.now out (sym c.before.call-fails.ensures ∙ c.if1.true)), search rules)
+    let a = c.args in
+    (λ out. sym (reveal_fails a.plan.now a.owners.now a.reader a.wanted a.work.now out (sym c.call_fails.ensures ∙ c.if-call_fails.true)), search rules)
 
 -- 1 has passed
-module _ (c : tie.Else1) where
+module _ (c : tie.Else-call_fails) where
   abbrev start : tie.Start
   start = c.before.before.before.before.before
 
@@ -38,53 +38,53 @@ module _ (c : tie.Else1) where
   work = start.args.work.now
 
   passed : call_fails p owners start.args.wanted ≡ false
-  passed = sym c.before.call-fails.ensures ∙ c.if1.false
+  passed = sym c.before.call_fails.ensures ∙ c.if-call_fails.false
 
   node : NodeOf p start.args.wanted × (length owners ≡ owner_bytes * leaf_count p)
   node = call_passed p owners start.args.wanted passed
 
-lacks-slots-requires : tie.Need-lacks-slots-requires
+lacks-slots-requires : tie.Need-lacks_slots-requires
 lacks-slots-requires c κs = (node c).0.formed
 
-returns-2 : tie.Need-returns-2
+returns-2 : tie.Need-returns-then-lacks_slots
 returns-2 c =
     let t = c.before.before in
     let a = (start t).args in
-    let short = ltb-true (length (work t)) (slot_at narrow (node_count (p t))) (sym c.before.lacks-slots.ensures ∙ c.if2.true) in
+    let short = ltb-true (length (work t)) (slot_at narrow (node_count (p t))) (sym c.lacks_slots.ensures ∙ c.if-lacks_slots.true) in
     (λ out. sym (reveal_short (p t) (owners t) a.reader a.wanted (work t) out (passed t) short), search rules)
 
 -- 27 too
-room : (c : tie.Else2) → slot_at narrow (node_count (p c.before.before)) ≤ length (work c.before.before)
+room : (c : tie.Else-lacks_slots) → slot_at narrow (node_count (p c.before.before)) ≤ length (work c.before.before)
 room c =
     let t = c.before.before in
-    ltb-false (length (work t)) (slot_at narrow (node_count (p t))) (sym c.before.lacks-slots.ensures ∙ c.if2.false)
+    ltb-false (length (work t)) (slot_at narrow (node_count (p t))) (sym c.lacks_slots.ensures ∙ c.if-lacks_slots.false)
 
-owners-of-requires : tie.Need-owners-of-requires
+owners-of-requires : tie.Need-owners_of-requires
 owners-of-requires c κs = node c.before.before
 
 -- what was asked of the rights
 may_see : (c : tie.After-seen) → let t = c.before.before.before.before in
     c.seen.result ≡ seen (owners_of (p t) (owners t) (start t).args.wanted) (start t).args.reader
-may_see c = let t = c.before.before.before.before in c.seen.ensures ∙ ap (λ (n : ℕ). seen n (start t).args.reader) c.before.owners_of.ensures
+may_see c = let t = c.before.before.before.before in c.seen.ensures ∙ ap (λ (n : ℕ). seen n (start t).args.reader) c.owners_of.ensures
 
-returns-3 : tie.Need-returns-3
+returns-3 : tie.Need-returns-then-not-seen
 returns-3 c =
     let e = c.before.before.before in
     let t = e.before.before in
     let a = (start t).args in
     let f = planned (p t) (node t).0.formed in
     let h = (node t).0.within in
-    (λ out. sym (reveal_unseen (p t) (owners t) a.reader a.wanted (work t) out (passed t) (room e) (sym (may_see c.before) ∙ not-true _ c.if3.true)), omega arith)
+    (λ out. sym (reveal_unseen (p t) (owners t) a.reader a.wanted (work t) out (passed t) (room c.before.before.before) (sym (may_see c.before) ∙ c.if-not-seen.true)), omega arith)
 
-returns-4 : tie.Need-returns-4
+returns-4 : tie.Need-returns
 returns-4 c =
     let e = c.before.before.before in
     let t = e.before.before in
     let a = (start t).args in
     record {
       node = (node t).0;
-      walkable = record { formed = (node t).0.formed; room = room e };
-      shows = λ out. sym (reveal_seen (p t) (owners t) a.reader a.wanted (work t) out (passed t) (room e) (sym (may_see c.before) ∙ not-false _ c.if3.false));
+      walkable = record { formed = (node t).0.formed; room = room c.before.before.before };
+      shows = λ out. sym (reveal_seen (p t) (owners t) a.reader a.wanted (work t) out (passed t) (room c.before.before.before) (sym (may_see c.before) ∙ c.if-not-seen.false));
     }
 
 pub admitted_spec : {M : Type 1} → statement M

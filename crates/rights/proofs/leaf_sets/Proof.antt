@@ -10,58 +10,58 @@ use Rattle.rights.specs.Rights.{owner_set}
 use Rattle.rights.proofs.leaf_sets.Statement.{statement}
 use Rattle.rights.proofs.leaf_sets.Tie as tie
 
-abbrev invariant-loop : tie.invariant-loop
+abbrev invariant-loop : tie.invariant-loop-k
 invariant-loop plan owners sets₀ leaves k₀ sets k = (k ≤ leaf_count plan) × Filled (owner_set owners) sets₀ sets k
 
-abbrev decreases-loop : tie.decreases-loop
+abbrev decreases-loop : tie.decreases-loop-k
 decreases-loop plan owners sets₀ leaves k₀ sets k = leaf_count plan - k
 
-leaf-count-requires : tie.Need-leaf-count-requires invariant-loop decreases-loop
-leaf-count-requires c κs = let start = c.before.before.before in (planned start.args.plan.now start.requires.0).sizes
+leaf-count-requires : tie.Need-leaf_count-leaves-requires invariant-loop decreases-loop
+leaf-count-requires c κs = (planned c.args.plan.now c.requires.0).sizes
 
-loop-holds : tie.Need-loop-init invariant-loop decreases-loop
-loop-holds c = let a = c.before.before.before.before.args in (omega arith, filled_none (owner_set a.owners.now) a.sets.now)
+loop-holds : tie.Need-loop-k-init invariant-loop decreases-loop
+loop-holds c = let a = c.args in (omega arith, filled_none (owner_set a.owners.now) a.sets.now)
 
-module _ (c : tie.In-loop invariant-loop decreases-loop) where
+module _ (c : tie.In-loop-k invariant-loop decreases-loop) where
   abbrev start : tie.Start invariant-loop decreases-loop
   start = c.before.before.before.before.before.before
 
-  further : c.before.loop.k < leaf_count start.args.plan.now
-  further = let e = c.before.before.leaf-count.ensures in omega (arith, c.loop-test.true)
+  further : c.before.loop-k.k < leaf_count start.args.plan.now
+  further = let e = c.before.before.leaf_count-leaves.ensures in omega (arith, c.loop-k-test.true)
 
-  small : c.before.loop.k < node_limit
-  small = let f = planned start.args.plan.now start.pre.0 in let h = further in omega arith
+  small : c.before.loop-k.k < node_limit
+  small = let f = planned start.args.plan.now start.requires.0 in let h = further in omega arith
 
-  within : c.before.loop.k < length c.before.loop.sets
+  within : c.before.loop-k.k < length c.before.loop-k.sets
   within =
       let h = small in
-      let room = start.pre.2 in
-      let size = c.before.loop.invariant.1.size in
+      let room = start.requires.2 in
+      let size = c.before.loop-k.invariant.1.size in
       omega arith
 
-mul-u64-at : tie.Need-overflow-mul-u64-at invariant-loop decreases-loop
+mul-u64-at : tie.Need-overflow_mul-k invariant-loop decreases-loop
 mul-u64-at c = let h = small c in omega arith
 
-u64-at-requires : tie.Need-u64-at-requires invariant-loop decreases-loop
+u64-at-requires : tie.Need-u64_at-requires invariant-loop decreases-loop
 u64-at-requires c κs =
     let h = further c in
     let size = (start c).requires.1 in
     omega arith
 
-mul-sets : tie.Need-overflow-mul-sets invariant-loop decreases-loop
+mul-sets : tie.Need-offset_bounds-sets-k invariant-loop decreases-loop
 mul-sets c = let h = small c.before in omega arith
 
-slice-write-sets : tie.Need-slice-write-sets invariant-loop decreases-loop
+slice-write-sets : tie.Need-bounds-sets-k invariant-loop decreases-loop
 slice-write-sets c = within c.before
 
-loop-again : tie.Need-loop-preserved invariant-loop decreases-loop
-loop-again c = let h = further c.before in (omega arith, filled_more (within c.before) c.u64-at.ensures c.before.before.loop.invariant.1)
+loop-again : tie.Need-loop-k-preserved invariant-loop decreases-loop
+loop-again c = let h = further c.before in (omega arith, filled_more (within c.before) c.u64_at.ensures c.loop-k.invariant.1)
 
 returns : tie.Need-returns invariant-loop decreases-loop
 returns c =
-    let l = c.before.loop in
-    let e = c.before.before.leaf-count.ensures in
-    let left = c.loop-test.false in
+    let l = c.loop-k in
+    let e = c.leaf_count-leaves.ensures in
+    let left = c.loop-k-test.false in
     let h = l.invariant.0 in
     (λ i a. l.invariant.1.done i (omega arith), λ i a. l.invariant.1.rest i (omega arith))
 

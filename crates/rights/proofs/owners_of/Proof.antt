@@ -7,11 +7,10 @@ use Rattle.rights.proofs.owners_of.Tie as tie
 
 returns : tie.Need-returns
 returns c =
-    let start = c.before.before.before.before.before.before.before.before in
-    let a = start.args in
-    let sets = c.before.before.before.before.leaf-sets.ensures in
-    c.before.gather.ensures
-    ∙ gathered_owners a.plan.now a.owners.now _ start.requires.0.formed sets.0 (λ k h. sets.1 k h ∙ no_sets 32 k) a.wanted start.requires.0.within
+    let a = c.args in
+    let sets = c.leaf_sets.ensures in
+    c.gather.ensures
+    ∙ gathered_owners a.plan.now a.owners.now _ c.requires.0.formed sets.0 (λ k h. sets.1 k h ∙ no_sets 32 k) a.wanted c.requires.0.within
 
 pub owners_of_spec : {M : Type 1} → statement M
 owners_of_spec =

@@ -4,17 +4,13 @@ use Rattle.numbers.proofs.Bits.{reads}
 use Rattle.shape.proofs.greater_option.Statement.{statement}
 use Rattle.shape.proofs.greater_option.Tie as tie
 
-returns-3 : tie.Need-returns-3
+returns-3 : tie.Need-returns-then-a-b
 returns-3 c =
-    let x = c.before.before.before.before.before.x.given in
-    let y = c.before.before.y.given in
-    rw (x.1, y.1, rw (reads x.0.0 (search rules), reads y.0.0 (search rules)) at c.if1.true)
+    rw (c.in-Is.is, c.in-Is-y.is, rw (reads c.in-Is.a (search rules), reads c.in-Is-y.b (search rules)) at c.if-a-b.true)
 
-returns-4 : tie.Need-returns-4
+returns-4 : tie.Need-returns-else-a-b
 returns-4 c =
-    let x = c.before.before.before.before.before.x.given in
-    let y = c.before.before.y.given in
-    rw (x.1, y.1, rw (reads x.0.0 (search rules), reads y.0.0 (search rules)) at c.if1.false)
+    rw (c.in-Is.is, c.in-Is-y.is, rw (reads c.in-Is.a (search rules), reads c.in-Is-y.b (search rules)) at c.if-a-b.false)
 
 pub greater_option_spec : {M : Type 1} → statement M
 greater_option_spec =
@@ -25,6 +21,6 @@ greater_option_spec =
     (λ c. search rules)
     (λ c. search rules)
     (λ c. search rules)
-    (λ c. rw (c.before.before.before.x.given.1, c.enum-told2.given.1))
+    (λ c. rw (c.in-Is.is, c.in_default-y.is))
     returns-3
     returns-4)

@@ -4,7 +4,7 @@ use Rattle.shape.proofs.rows_clash.Statement.{statement}
 use Rattle.shape.proofs.rows_clash.Tie as tie
 
 returns : tie.Need-returns
-returns c = rw (c.before.rows_agree.ensures, c.same-dataset.ensures)
+returns c = rw (c.rows_agree.ensures, c.same_dataset.ensures)
 
 pub rows_clash_spec : {M : Type 1} → statement M
 rows_clash_spec = tie.close (tie.spec (λ c κs. search rules) (λ c κs. search rules) returns)

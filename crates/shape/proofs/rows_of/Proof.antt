@@ -5,15 +5,15 @@ use borrow.Author.Rules.{rules}
 use Rattle.shape.proofs.rows_of.Statement.{statement}
 use Rattle.shape.proofs.rows_of.Tie as tie
 
-returns : tie.Need-returns
+returns : tie.Need-returns-then-not-rows_agree
 returns c =
-    let agree = c.before.rows_agree in
-    rw (sym agree.ensures ∙ not-true agree.result c.if1.true)
+    let agree = c.rows_agree in
+    rw (sym agree.ensures ∙ c.if-not-rows_agree.true)
 
-returns-2 : tie.Need-returns-2
+returns-2 : tie.Need-returns
 returns-2 c =
-    let agree = c.before.before.rows_agree in
-    rw (sym agree.ensures ∙ not-false agree.result c.before.if1.false) c.greater-present.ensures
+    let agree = c.rows_agree in
+    rw (sym agree.ensures ∙ c.if-not-rows_agree.false) c.greater_present.ensures
 
 pub rows_of_spec : {M : Type 1} → statement M
 rows_of_spec = tie.close (tie.spec (λ c κs. search rules) returns (λ c κs. search rules) returns-2)

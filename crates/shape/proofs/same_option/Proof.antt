@@ -4,11 +4,9 @@ use Rattle.shape.proofs.Values.{same_bits}
 use Rattle.shape.proofs.same_option.Statement.{statement}
 use Rattle.shape.proofs.same_option.Tie as tie
 
-returns-4 : tie.Need-returns-4
+returns-4 : tie.Need-returns-in-Is-y-2
 returns-4 c =
-    let x = c.before.before.before.before.x.given in
-    let y = c.before.y.given in
-    rw (x.1, y.1) (same_bits x.0.0 y.0.0 (search rules) (search rules))
+    rw (c.in-Is.is, c.in-Is-y-2.is) (same_bits c.in-Is.a c.in-Is-y-2.b (search rules) (search rules))
 
 pub same_option_spec : {M : Type 1} → statement M
 same_option_spec =

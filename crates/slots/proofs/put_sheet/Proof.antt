@@ -13,18 +13,17 @@ use borrow.Author.Rules.{rules}
 use Rattle.slots.proofs.put_sheet.Statement.{statement}
 use Rattle.slots.proofs.put_sheet.Tie as tie
 
-returns : tie.Need-returns
+returns : tie.Need-returns-then-buf-start
 returns c = λ e. let z : ◌≡◌ {A = ℕ} 0 1 = cc in absurd (omega arith)
 
-returns-2 : tie.Need-returns-2
+returns-2 : tie.Need-returns-in_default
 returns-2 c = λ e. let z : ◌≡◌ {A = ℕ} 0 1 = cc in absurd (omega arith)
 
-returns-3 : tie.Need-returns-3
+returns-3 : tie.Need-returns
 returns-3 c = λ e.
-    let put = c.before.before.before.before.before in
-    let a = c.before.before.before.before.before.before.before.before.before.before.args in
+    let a = c.args in
     let d = a.buf.now in
-    let puts = subst (λ (h : Held). Puts h (field_bytes a.s.now) (take (length d - slot_at narrow a.k) (drop (slot_at narrow a.k) d)) put.bytes_of.new.1.0) c.before.held.given.1 put.bytes_of.ensures.0 in
+    let puts = subst (λ (h : Held). Puts h (field_bytes a.s.now) (take (length d - slot_at narrow a.k) (drop (slot_at narrow a.k) d)) c.bytes_of-held.new.out) c.in-Len.is c.bytes_of-held.ensures.0 in
     slot_told a.s.now a.k d puts.0 puts.1 puts.2 e puts.3
 
 pub put_sheet_spec : {M : Type 1} → statement M

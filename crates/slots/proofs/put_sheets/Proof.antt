@@ -14,42 +14,42 @@ use Rattle.slots.specs.Sheets.{split, laid}
 use Rattle.slots.proofs.put_sheets.Statement.{statement}
 use Rattle.slots.proofs.put_sheets.Tie as tie
 
-abbrev invariant-loop : tie.invariant-loop
+abbrev invariant-loop : tie.invariant-loop-k
 invariant-loop s slot buf₀ k₀ at₀ buf k at =
     (at ≤ length s)
     × (length buf ≡ length buf₀)
     × (k + length (split 44 (drop at s)) ≡ slot + length (split 44 s))
     × (laid (split 44 (drop at s)) k buf ≡ laid (split 44 s) slot buf₀)
 
-abbrev decreases-loop : tie.decreases-loop
+abbrev decreases-loop : tie.decreases-loop-k
 decreases-loop s slot buf₀ k₀ at₀ buf k at = 32 - k
 
-returns : tie.Need-returns invariant-loop decreases-loop
+returns : tie.Need-returns-then-same invariant-loop decreases-loop
 returns c =
-    let none = texts_none c.before.before.before.before.before.args.s.now (c.before.same.ensures.0 c.if1.true) in
+    let none = texts_none c.args.s.now (c.same.ensures.0 c.if-same.true) in
     (rw (none, add-zero), rw none (laid_none _ _))
 
-loop-holds : tie.Need-loop-init invariant-loop decreases-loop
+loop-holds : tie.Need-loop-k-init invariant-loop decreases-loop
 loop-holds c = (search rules, refl, refl, refl)
 
-returns-3 : tie.Need-returns-3 invariant-loop decreases-loop
+returns-3 : tie.Need-returns-then-to-s invariant-loop decreases-loop
 returns-3 c =
-    let a = c.before.before.before.before.before.before.before.before.before.before.before.before.before.before.before.args in
-    let l = c.before.before.before.before.before.before.before.before.before.loop in
+    let a = c.args in
+    let l = c.loop-k in
     let s = a.s.now in
-    let put = c.before.before.before.before.put-sheet in
-    let all = texts_some s (λ e. not_both c.before.before.before.before.before.before.before.before.before.before.if1.false (c.before.before.before.before.before.before.before.before.before.before.before.same.ensures.1 e)) in
-    let last = split_last c.before.before.before.before.before.before.before.find.ensures c.if3.true in
-    let placed = put.ensures (not-false put.result c.before.if2.false) in
+    let put = c.put_sheet in
+    let all = texts_some s (λ e. not_both c.if-same.false (c.same.ensures.1 e)) in
+    let last = split_last c.find-to.ensures c.if-to-s.true in
+    let placed = put.ensures (c.if-not-put_sheet.false) in
     (rw all (omega (arith, l.invariant.2, ap length last)), rw all (sym l.invariant.3 ∙ rw last (laid_more _ [] _ _ placed ∙ laid_none _ _)))
 
-loop-again : tie.Need-loop-preserved invariant-loop decreases-loop
+loop-again : tie.Need-loop-k-preserved invariant-loop decreases-loop
 loop-again c =
-    let l = c.before.before.before.before.before.before.before.before.before.loop in
-    let put = c.before.before.before.before.put-sheet in
-    let more = split_more c.before.before.before.before.before.before.before.find.ensures c.if3.false in
-    let placed = put.ensures (not-false put.result c.before.if2.false) in
-    (omega (arith, c.before.before.before.before.before.before.before.find.ensures.high), put.auto.1.1.0 ∙ l.invariant.1, omega (arith, l.invariant.2, ap length more), sym (rw more (laid_more _ _ _ _ placed)) ∙ l.invariant.3)
+    let l = c.loop-k in
+    let put = c.put_sheet in
+    let more = split_more c.find-to.ensures c.if-to-s.false in
+    let placed = put.ensures (c.if-not-put_sheet.false) in
+    (omega (arith, c.find-to.ensures.high), put.auto.buf ∙ l.invariant.1, omega (arith, l.invariant.2, ap length more), sym (rw more (laid_more _ _ _ _ placed)) ∙ l.invariant.3)
 
 pub put_sheets_spec : {M : Type 1} → statement M
 put_sheets_spec =

@@ -7,36 +7,36 @@ use Rattle.standing.proofs.Filled.{Filled, filled_none, filled_more}
 use Rattle.standing.proofs.singles.Statement.{statement}
 use Rattle.standing.proofs.singles.Tie as tie
 
-abbrev invariant-loop : tie.invariant-loop
+abbrev invariant-loop : tie.invariant-loop-k
 invariant-loop sets₀ k₀ sets k = Filled (λ i. 2 ^ i) sets₀ sets k
 
-abbrev decreases-loop : tie.decreases-loop
+abbrev decreases-loop : tie.decreases-loop-k
 decreases-loop sets₀ k₀ sets k = length sets₀ - k
 
-loop-holds : tie.Need-loop-init invariant-loop decreases-loop
-loop-holds c = filled_none (λ i. 2 ^ i) c.before.args.sets.now
+loop-holds : tie.Need-loop-k-init invariant-loop decreases-loop
+loop-holds c = filled_none (λ i. 2 ^ i) c.args.sets.now
 
 only-requires : tie.Need-only-requires invariant-loop decreases-loop
 only-requires c κs =
-    let few = c.before.before.before.requires in
-    let size = c.before.loop.invariant.size in
-    omega (arith, c.loop-test.true)
+    let few = c.requires in
+    let size = c.loop-k.invariant.size in
+    omega (arith, c.loop-k-test.true)
 
-mul-sets : tie.Need-overflow-mul-sets invariant-loop decreases-loop
+mul-sets : tie.Need-offset_bounds-sets-k invariant-loop decreases-loop
 mul-sets c =
-    let few = c.before.before.before.before.requires in
-    let size = c.before.before.loop.invariant.size in
-    omega (arith, c.before.loop-test.true)
+    let few = c.requires in
+    let size = c.loop-k.invariant.size in
+    omega (arith, c.loop-k-test.true)
 
-loop-again : tie.Need-loop-preserved invariant-loop decreases-loop
+loop-again : tie.Need-loop-k-preserved invariant-loop decreases-loop
 loop-again c =
-    let l = c.before.before.loop in
-    filled_more c.before.loop-test.true c.only.ensures l.invariant
+    let l = c.loop-k in
+    filled_more c.loop-k-test.true c.only.ensures l.invariant
 
 returns : tie.Need-returns invariant-loop decreases-loop
 returns c =
-    let l = c.before.loop in
-    λ i h. l.invariant.done i (omega (arith, c.loop-test.false, l.invariant.size))
+    let l = c.loop-k in
+    λ i h. l.invariant.done i (omega (arith, c.loop-k-test.false, l.invariant.size))
 
 pub singles_spec : {M : Type 1} → statement M
 singles_spec =

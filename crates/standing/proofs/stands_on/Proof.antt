@@ -9,12 +9,11 @@ use Rattle.standing.proofs.stands_on.Tie as tie
 
 returns : tie.Need-returns
 returns c =
-    let start = c.before.before.before.before.before.before.before in
-    let p = start.args.plan.now in
-    let alone = c.before.before.before.before.singles.ensures in
+    let p = c.args.plan.now in
+    let alone = c.singles.ensures in
     λ j.
-    ap (λ (n : ℕ). in_set n j) c.before.gather.ensures
-    ∙ gathered_stands p _ start.requires.formed (λ k h. alone k h) j start.args.wanted start.requires.within
+    ap (λ (n : ℕ). in_set n j) c.gather.ensures
+    ∙ gathered_stands p _ c.requires.formed (λ k h. alone k h) j c.args.wanted c.requires.within
 
 pub stands_on_spec : {M : Type 1} → statement M
 stands_on_spec =

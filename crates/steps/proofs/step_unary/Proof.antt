@@ -14,70 +14,57 @@ use Rattle.steps.proofs.Delivered.{unary_refused, unary_nature_refused, unary_wr
 use Rattle.steps.proofs.step_unary.Statement.{statement}
 use Rattle.steps.proofs.step_unary.Tie as tie
 
-read-head-requires : tie.Need-read-head-requires
-read-head-requires c κs = stands c.before.before.before.before.before.requires.0.0
+read-head-requires : tie.Need-read_head-h-requires
+read-head-requires c κs = stands c.requires.0.0
 
-returns : tie.Need-returns
+returns : tie.Need-returns-then-k-ne0
 returns c =
-    let code = c.before in
-    let a = code.before.before.before.before.before.before.before.args in
-    (unary_refused (form_of a.f) a.c a.left.now code.before.read_head.ensures code.unary-code.ensures c.if1.true, tt)
+    let a = c.args in
+    (unary_refused (form_of a.f) a.c a.left.now c.read_head-h.ensures c.unary_code-k.ensures c.if-k-ne0.true, tt)
 
-propagate-unary-nature-requires : tie.Need-propagate-unary-nature-requires
+propagate-unary-nature-requires : tie.Need-propagate_unary_nature-derived-requires
 propagate-unary-nature-requires c κs =
-    let width = c.before.before.before.before.before in
-    let code = width.before.before in
-    let start = code.before.before.before.before.before.before.before in
-    let a = start.args in
-    let p = start.requires in
-    let none = sym code.unary-code.ensures ∙ width.before.if1.false in
-    let limited = unary_columns (form_of a.f) a.left.now p.0.0.fields code.before.read_head.ensures width.columns_of.ensures none in
-    ((p.0.0, record { some_column = limited.0; within = limited.1; first_room = p.1.0.first-room; second_room = p.1.0.second-room }, p.0.1), p.1.1)
+    let a = c.args in
+    let p = c.requires in
+    let none = sym c.unary_code-k.ensures ∙ c.if-k-ne0.false in
+    let limited = unary_columns (form_of a.f) a.left.now p.0.0.fields c.read_head-h.ensures c.columns_of-columns.ensures none in
+    ((p.0.0, record { some_column = limited.0; within = limited.1; first_room = p.1.0.first_room; second_room = p.1.0.second_room }, p.0.1), p.1.1)
 
-node-at-requires : tie.Need-node-at-requires
-node-at-requires c κs = stands c.before.before.before.before.before.before.before.before.before.before.before.before.before.before.before.before.before.before.before.before.before.before.before.before.before.before.before.before.before.requires.0.0
+node-at-requires : tie.Need-node_at-requires
+node-at-requires c κs = stands c.requires.0.0
 
-put-sheet-requires : tie.Need-put-sheet-requires
+put-sheet-requires : tie.Need-put_sheet-requires
 put-sheet-requires c κs =
-    let known = c.before.before.before.before.before in
-    let nature = known.before.before.before.before.before.before.before.before.before.before in
-    let start = nature.before.before.before.before.before.before.before.before.before.before.before.before.before.before.before in
-    let a = start.args in
-    let p = start.requires in
-    let call = nature.propagate-unary-nature in
+    let a = c.args in
+    let p = c.requires in
+    let call = c.propagate_unary_nature-derived in
     let wide = nature_room_lem (laid a.f) (family_of a.c) a.left.now a.left.now in
-    room (rw known.derived2.given.1 at call.ensures.1) p.0.0.sizes (omega (arith, wide, p.1.0.sheet-room))
+    room (rw c.in-Nature.is at call.ensures.1) p.0.0.sizes (omega (arith, wide, p.1.0.sheet_room))
 
-returns-2 : tie.Need-returns-2
+returns-2 : tie.Need-returns-in-Refused
 returns-2 c =
-    let nature = c.before.before.before.before.before.before.before.before.before.before.before in
-    let width = nature.before.before.before.before.before.before in
-    let code = width.before.before in
-    let a = code.before.before.before.before.before.before.before.args in (
-      unary_nature_refused (form_of a.f) a.c a.left.now code.before.read_head.ensures code.unary-code.ensures width.columns_of.ensures
-          width.before.if1.false
-          (rw c.before.derived.given.1 at nature.propagate-unary-nature.ensures.0),
+    let a = c.args in (
+      unary_nature_refused (form_of a.f) a.c a.left.now c.read_head-h.ensures c.unary_code-k.ensures c.columns_of-columns.ensures
+          c.if-k-ne0.false
+          (rw c.in-Refused.is at c.propagate_unary_nature-derived.ensures.0),
       tt,
     )
 
-returns-3 : tie.Need-returns-3
+returns-3 : tie.Need-returns-in-Nature
 returns-3 c =
     let put = c.before.before in
     let node = put.before in
     let known = node.before.before.before.before.before in
     let nature = known.before.before.before.before.before.before.before.before.before.before in
-    let width = nature.before.before.before.before.before.before in
-    let code = width.before.before in
-    let start = code.before.before.before.before.before.before.before in
-    let a = start.args in
-    let back : to_z w64 (of_z w64 node.Node-at.result) ≡ node.Node-at.result = search rules in
+    let a = c.args in
+    let back : to_z w64 (of_z w64 c.Node-at.result) ≡ c.Node-at.result = search rules in
     let wide = nature_room_lem (laid a.f) (family_of a.c) a.left.now a.left.now in
-    let placed = rw known.derived2.given.1 at nature.propagate-unary-nature.ensures.1 in (
-      unary_written (form_of a.f) a.c a.left.now code.before.read_head.ensures code.unary-code.ensures width.columns_of.ensures
-          width.before.if1.false
-          (rw known.derived2.given.1 at nature.propagate-unary-nature.ensures.0)
-          (rw (back, node.Node-at.ensures) at put.put-sheet.ensures.front),
-      bounded a.left.now placed start.requires.0.0.sizes (omega (arith, wide, start.requires.1.0.sheet-room)) put.put-sheet.ensures.next,
+    let placed = rw c.in-Nature.is at c.propagate_unary_nature-derived.ensures.1 in (
+      unary_written (form_of a.f) a.c a.left.now c.read_head-h.ensures c.unary_code-k.ensures c.columns_of-columns.ensures
+          c.if-k-ne0.false
+          (rw c.in-Nature.is at c.propagate_unary_nature-derived.ensures.0)
+          (rw (back, c.Node-at.ensures) at c.put_sheet.ensures.front),
+      bounded a.left.now placed c.requires.0.0.sizes (omega (arith, wide, c.requires.1.0.sheet_room)) c.put_sheet.ensures.next,
     )
 
 pub step_unary_spec : {M : Type 1} → statement M
@@ -93,16 +80,16 @@ step_unary_spec =
     (λ c. search rules)
     node-at-requires
     put-sheet-requires
-    (λ c. c.before.before.before.before.before.before.before.before.before.before.before.propagate-unary-nature.auto.1.1.1.1.1.1.1.1.0)
-    (λ c. c.before.before.before.before.before.before.before.before.before.before.before.propagate-unary-nature.auto.1.1.1.1.1.1.1.1.1.0)
-    (λ c. c.before.before.before.before.before.before.before.before.before.before.before.propagate-unary-nature.auto.1.1.1.1.1.0)
-    (λ c. c.before.before.before.before.before.before.before.before.before.before.before.propagate-unary-nature.auto.1.1.1.1.1.1.0)
-    (λ c. c.before.before.before.before.before.before.before.before.before.before.before.propagate-unary-nature.auto.1.1.1.1.1.1.1.0)
+    (λ c. c.propagate_unary_nature-derived.auto.first)
+    (λ c. c.propagate_unary_nature-derived.auto.second)
+    (λ c. c.propagate_unary_nature-derived.auto.us)
+    (λ c. c.propagate_unary_nature-derived.auto.store)
+    (λ c. c.propagate_unary_nature-derived.auto.hints)
     returns-2
-    (λ c. c.before.before.before.before.before.before.before.before.before.before.before.before.before.before.before.before.before.before.propagate-unary-nature.auto.1.1.1.1.1.1.1.1.0)
-    (λ c. c.before.before.before.before.before.before.before.before.before.before.before.before.before.before.before.before.before.before.propagate-unary-nature.auto.1.1.1.1.1.1.1.1.1.0)
-    (λ c. c.before.before.before.before.before.before.before.before.before.before.before.before.before.before.before.before.before.before.propagate-unary-nature.auto.1.1.1.1.1.0)
-    (λ c. c.before.before.before.before.before.before.before.before.before.before.before.before.before.before.before.before.before.before.propagate-unary-nature.auto.1.1.1.1.1.1.0)
-    (λ c. c.before.before.before.before.before.before.before.before.before.before.before.before.before.before.before.before.before.before.propagate-unary-nature.auto.1.1.1.1.1.1.1.0)
-    (λ c. c.before.before.put-sheet.auto.1.0)
+    (λ c. c.propagate_unary_nature-derived.auto.first)
+    (λ c. c.propagate_unary_nature-derived.auto.second)
+    (λ c. c.propagate_unary_nature-derived.auto.us)
+    (λ c. c.propagate_unary_nature-derived.auto.store)
+    (λ c. c.propagate_unary_nature-derived.auto.hints)
+    (λ c. c.put_sheet.auto.buf)
     returns-3)

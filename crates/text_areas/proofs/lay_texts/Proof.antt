@@ -5,8 +5,8 @@ use Prim.Native.Nat.{ℕ, ◌+◌, ◌-◌, ◌*◌, ◌^◌, ◌≤◌, ◌<◌
 use native.Mathlib.Omega.{arith}
 use lib.ListN.{length}
 use borrow.Author.Rules.{rules}
-use Rattle.bytes.specs.Le.{le_at}
-use Rattle.bytes.specs.Wrote.{Wrote}
+use Rattle.octets.specs.Le.{le_at}
+use Rattle.octets.specs.Wrote.{Wrote}
 use Rattle.writer.proofs.Copies.{same_size}
 use Rattle.base.specs.Form.{Form, form_of}
 use Rattle.base.proofs.Forms.{small}
@@ -19,16 +19,16 @@ use Rattle.text_areas.proofs.Laying.{codes_read, text_at, Laying, laying_start, 
 use Rattle.text_areas.proofs.lay_texts.Statement.{statement}
 use Rattle.text_areas.proofs.lay_texts.Tie as tie
 
-abbrev invariant-loop : tie.invariant-loop
+abbrev invariant-loop : tie.invariant-loop-i
 invariant-loop f left right n t values₀ limit area at₀ i₀ values at i =
     (i ≤ t) × (at ≤ (form_of f).text_limit) × (length values ≡ length values₀) × Laying (form_of f) left right values₀ t i at values
 
-abbrev decreases-loop : tie.decreases-loop
+abbrev decreases-loop : tie.decreases-loop-i
 decreases-loop f left right n t values₀ limit area at₀ i₀ values at i = t - i
 
 -- a join is read, and how long its text is
-module _ (e : tie.After-join-length invariant-loop decreases-loop) where
-  abbrev loop : tie.At-loop invariant-loop decreases-loop
+module _ (e : tie.After-join_length-size invariant-loop decreases-loop) where
+  abbrev loop : tie.At-loop-i invariant-loop decreases-loop
   loop = e.before.before.before.before
 
   abbrev start : tie.Start invariant-loop decreases-loop
@@ -53,7 +53,7 @@ module _ (e : tie.After-join-length invariant-loop decreases-loop) where
   code_is = e.before.u64-at.ensures ∙ loop.loop.inv.3.joins loop.loop.i (omega arith) next
 
   lies : JoinLies F left right (le_at 8 (8 * loop.loop.i) values)
-  lies = start.pre.1 loop.loop.i next
+  lies = start.requires.1 loop.loop.i next
 
   size_is : e.join-length.result ≡ length (text_at F left right values loop.loop.i)
   size_is = e.join-length.ensures ∙ ap (λ (c : ℕ). part_length (left_part c) + part_length (right_part c)) code_is ∙ sym (join_size F lies)
@@ -61,102 +61,101 @@ module _ (e : tie.After-join-length invariant-loop decreases-loop) where
   size_below : e.join-length.result < 2 ^ 17
   size_below = omega (arith, size_is, join_size F lies, join_below F lies)
 
-mul-area : tie.Need-overflow-mul-area invariant-loop decreases-loop
-mul-area c = let s = small c.before.before.before.before.args.f in search rules
+mul-area : tie.Need-overflow_mul-area invariant-loop decreases-loop
+mul-area c = let s = small c.args.f in search rules
 
-loop-holds : tie.Need-loop-init invariant-loop decreases-loop
+loop-holds : tie.Need-loop-i-init invariant-loop decreases-loop
 loop-holds c =
-    let a = c.before.before.before.before.args in
+    let a = c.args in
     (omega arith, omega arith, refl, laying_start (form_of a.f) a.left.now a.right.now a.values.now a.t)
 
-mul-place : tie.Need-overflow-mul-place invariant-loop decreases-loop
-mul-place c = let s = small c.before.before.before.before.before.before.args.f in search rules
+mul-place : tie.Need-overflow_mul-place invariant-loop decreases-loop
+mul-place c = let s = small c.args.f in search rules
 
-add-if1 : tie.Need-overflow-add-if1 invariant-loop decreases-loop
+add-if1 : tie.Need-overflow_add-at invariant-loop decreases-loop
 add-if1 c = let s = small (start c).args.f in record { fits = omega (arith, size_below c, (loop c).loop.invariant.1, s.text) }
 
-returns : tie.Need-returns invariant-loop decreases-loop
+returns : tie.Need-returns-then-limit-at invariant-loop decreases-loop
 returns c =
     let e = c.before in
     let l = (loop e).loop in
     let s = start e in
     let above : (F e).text_limit < l.at + length (text_at (F e) (left e) (right e) (values e) l.i) =
-    omega (arith, c.if1.true, size_is e, (loop e).before.text-limit.ensures.0) in
+    omega (arith, c.if-limit-at.true, size_is e, (loop e).text-limit.ensures.0) in
     let over = laying_over (F e) (left e) (right e) (values e) s.args.t l.inv.3 (next e) (F e).text_limit above in
     λ cs bytes fits.
     subst
     (λ (xs : List (List ℕ)). AreaLaid (F e) s.args.n s.args.t xs l.values (D.Refused 28))
-    (codes_read (join_in (F e) (left e) (right e)) (values e) s.args.t cs (omega (arith, s.pre.0)) bytes fits)
+    (codes_read (join_in (F e) (left e) (right e)) (values e) s.args.t cs (omega (arith, s.requires.0)) bytes fits)
     (area_over (F e) s.args.n s.args.t _ l.values over)
 
-put-spot-requires : tie.Need-put-spot-requires invariant-loop decreases-loop
+put-spot-requires : tie.Need-put_spot-requires invariant-loop decreases-loop
 put-spot-requires c κs =
     let e = c.before.before in
     let l = (loop e).loop in
     let s = small (start e).args.f in
     (omega (arith, next e, l.inv.2, (start e).requires.0), omega (arith, l.inv.1, s.text), omega (arith, size_below e))
 
-add-put-join : tie.Need-overflow-add-put-join invariant-loop decreases-loop
+add-put-join : tie.Need-overflow_add-area invariant-loop decreases-loop
 add-put-join c =
     let e = c.before.before.before.before.before.before in
     let s = small (start e).args.f in
     record { fits = omega (arith, (loop e).loop.invariant.1, s.text, s.categories, (start e).requires.0) }
 
-put-join-requires : tie.Need-put-join-requires invariant-loop decreases-loop
+put-join-requires : tie.Need-put_join-requires invariant-loop decreases-loop
 put-join-requires c κs =
     let p = c.before.before.before in
     let e = p.before.before.before in
     let l = (loop e).loop in
     let s = start e in
     rw (code_is e)
-    (lies e, omega (arith, size_is e, p.before.before.if1.false, p.put-spot.auto.0, l.inv.2, (loop e).before.text-limit.ensures.0, s.pre.0))
+    (lies e, omega (arith, size_is e, c.if-limit-at.false, c.put_spot.auto.values, l.inv.2, (loop e).text-limit.ensures.0, s.requires.0))
 
-add_at : tie.Need-overflow-add-at invariant-loop decreases-loop
+add_at : tie.Need-overflow_add-at-in-loop-i invariant-loop decreases-loop
 add_at c =
     let e = c.before.before.before.before.before.before.before.before.before in
     let s = small (start e).args.f in
     record { fits = omega (arith, size_below e, (loop e).loop.invariant.1, s.text) }
 
-loop-again : tie.Need-loop-preserved invariant-loop decreases-loop
+loop-again : tie.Need-loop-i-preserved invariant-loop decreases-loop
 loop-again c =
     let j = c.before.before in
     let p = j.before.before.before.before in
     let e = p.before.before.before in
     let l = (loop e).loop in
     let s = start e in
-    let within : l.at + e.join-length.result ≤ (F e).text_limit = omega (arith, p.before.before.if1.false, (loop e).before.text-limit.ensures.0) in
-    let laid = subst (λ (k : ℕ). Wrote p.put-spot.new.0 (8 * s.args.t + l.at) (length (join_in (F e) (left e) (right e) k)) (join_in (F e) (left e) (right e) k) j.put-join.new.1.0 j.put-join.result) (code_is e) j.put-join.ensures in (
+    let within : l.at + c.join_length-size.result ≤ (F e).text_limit = omega (arith, c.if-limit-at.false, (loop e).text-limit.ensures.0) in
+    let laid = subst (λ (k : ℕ). Wrote c.put_spot.new.values (8 * s.args.t + l.at) (length (join_in (F e) (left e) (right e) k)) (join_in (F e) (left e) (right e) k) c.put_join.new.buf c.put_join.result) (code_is e) c.put_join.ensures in (
       omega (arith, next e),
       within,
-      j.put-join.auto.1.0 ∙ p.put-spot.auto.0 ∙ l.inv.2,
+      c.put_join.auto.buf ∙ c.put_spot.auto.values ∙ l.inv.2,
       laying_more (F e) (left e) (right e) (values e) s.args.t l.inv.3
-          (next e) (size_is e) (omega (arith, l.inv.2, within, s.pre.0)) p.put-spot.auto.0 p.put-spot.ensures.0 p.put-spot.ensures.1
+          (next e) (size_is e) (omega (arith, l.inv.2, within, s.requires.0)) c.put_spot.auto.values c.put_spot.ensures.0 c.put_spot.ensures.1
           (same_size laid (sym (size_is e))),
     )
 
 -- an area keeps to its limit, which has 16 bits
-cast-t23 : tie.Need-overflow-cast-t23 invariant-loop decreases-loop
-cast-t23 c = let s = small c.before.before.before.before.before.before.args.f in record { fits = omega (arith, s.text, c.before.loop.invariant.1) }
+cast-t23 : tie.Need-overflow_cast-result invariant-loop decreases-loop
+cast-t23 c = let s = small c.args.f in record { fits = omega (arith, s.text, c.loop-i.invariant.1) }
 
-numbers-length-requires : tie.Need-numbers-length-requires invariant-loop decreases-loop
-numbers-length-requires c κs = let s = small c.before.before.before.before.before.before.args.f in search rules
+numbers-length-requires : tie.Need-numbers_length-requires invariant-loop decreases-loop
+numbers-length-requires c κs = let s = small c.args.f in search rules
 
-add-t25 : tie.Need-overflow-add-t25 invariant-loop decreases-loop
-add-t25 c = let s = small c.before.before.before.before.before.before.before.args.f in search rules
+add-t25 : tie.Need-overflow_add-result invariant-loop decreases-loop
+add-t25 c = let s = small c.args.f in search rules
 
-returns-2 : tie.Need-returns-2 invariant-loop decreases-loop
+returns-2 : tie.Need-returns invariant-loop decreases-loop
 returns-2 c =
-    let l = c.before.before.loop in
-    let s = c.before.before.before.before.before.before.before in
-    let a = s.args in
+    let l = c.loop-i in
+    let a = c.args in
     let F = form_of a.f in
-    let all : l.i ≡ a.t = omega (arith, c.before.loop-test.false, l.invariant.0) in
+    let all : l.i ≡ a.t = omega (arith, c.loop-i-test.false, l.invariant.0) in
     let done = laying_end F a.left.now a.right.now a.values.now a.t l.invariant.3 all in
     λ cs bytes fits.
-    rw c.numbers-length.ensures.0
+    rw c.numbers_length.ensures.0
     (subst
     (λ (xs : List (List ℕ)). AreaLaid F a.n a.t xs l.values (D.Nature (laid_parts F a.n a.t l.at)))
-    (codes_read (join_in F a.left.now a.right.now) a.values.now a.t cs (omega (arith, s.requires.0)) bytes fits)
+    (codes_read (join_in F a.left.now a.right.now) a.values.now a.t cs (omega (arith, c.requires.0)) bytes fits)
     (area_given F a.n a.t _ l.values l.at l.invariant.1 done.0 done.1))
 
 pub lay_texts_spec : {M : Type 1} → statement M

@@ -4,7 +4,7 @@ use mathlib.Core.List.{List, ◌++◌}
 use Prim.Native.Nat.{ℕ, ◌+◌}
 use native.Mathlib.Omega.{arith}
 use borrow.Author.Rules.{rules}
-use Rattle.bytes.proofs.Appends.{◌then◌, same_bytes}
+use Rattle.octets.proofs.Appends.{◌then◌, same_bytes}
 use Rattle.writer.proofs.Copies.{same_size}
 use Rattle.base.specs.Form.{form_of}
 use Rattle.texts.specs.Joins.{part_start, part_length, left_part, right_part, join_in}
@@ -14,7 +14,7 @@ use Rattle.text_areas.proofs.put_join.Statement.{statement}
 use Rattle.text_areas.proofs.put_join.Tie as tie
 
 -- the two parts
-module _ (e : tie.After-right-part) where
+module _ (e : tie.After-right_part-q) where
   abbrev start : tie.Start
   start = e.before.before.before.before.before
 
@@ -30,23 +30,23 @@ module _ (e : tie.After-right-part) where
   right_is : e.right-part.result ≡ right_part start.args.c
   right_is = e.right-part.ensures.0
 
-put-bytes-requires : tie.Need-put-bytes-requires
+put-bytes-requires : tie.Need-put_bytes-end-requires
 put-bytes-requires c κs =
     let e = c.before.before.before.before in
     let s = start e in
-    let all = join_size (form_of s.args.f) s.pre.0 in
+    let all = join_size (form_of s.args.f) s.requires.0 in
     let size = c.part_length.ensures.0 in
-    (omega (arith, s.pre.1, all, size, left_is e, right_is e), omega (arith, size, c.before.before.part-start.ensures.0, c.before.before.before.area_of.ensures, left_is e, right_is e, s.pre.0))
+    (omega (arith, s.requires.1, all, size, left_is e, right_is e), omega (arith, size, c.part_start.ensures.0, c.area_of.ensures, left_is e, right_is e, s.requires.0))
 
-put-bytes-requires-2 : tie.Need-put-bytes-requires-2
+put-bytes-requires-2 : tie.Need-put_bytes-requires
 put-bytes-requires-2 c κs =
     let first = c.before.before.before.before.before.before in
     let e = first.before.before.before.before.before in
     let s = start e in
-    let all = join_size (form_of s.args.f) s.pre.0 in
+    let all = join_size (form_of s.args.f) s.requires.0 in
     let size = c.part-length2.ensures.0 in (
-      omega (arith, s.pre.1, all, first.before.part_length.ensures.0, size, left_is e, right_is e, first.put-bytes.ensures.next, first.put-bytes.auto.0),
-      omega (arith, size, c.before.before.part-start2.ensures.0, c.before.before.before.area-of2.ensures, left_is e, right_is e, s.pre.0),
+      omega (arith, s.requires.1, all, c.part_length.ensures.0, size, left_is e, right_is e, c.put_bytes-end.ensures.next, c.put_bytes-end.auto.buf),
+      omega (arith, size, c.part_start-2.ensures.0, c.area_of-2.ensures, left_is e, right_is e, s.requires.0),
     )
 
 returns : tie.Need-returns
@@ -57,17 +57,17 @@ returns c =
     let e = first.before.before.before.before.before in
     let s = start e in
     let F = form_of s.args.f in
-    let before = first.before.part_length.ensures.0 ∙ ap part_length (left_is e) in
-    let size = second.before.part-length2.ensures.0 ∙ ap part_length (right_is e) in
-    let all = join_size (form_of s.args.f) s.pre.0 in
-    let from = first.before.before.before.part-start.ensures.0 ∙ ap part_start (left_is e) in
-    let from₂ = second.before.before.before.part-start2.ensures.0 ∙ ap part_start (right_is e) in
+    let before = c.part_length.ensures.0 ∙ ap part_length (left_is e) in
+    let size = c.part-length2.ensures.0 ∙ ap part_length (right_is e) in
+    let all = join_size (form_of s.args.f) s.requires.0 in
+    let from = c.part_start.ensures.0 ∙ ap part_start (left_is e) in
+    let from₂ = c.part_start-2.ensures.0 ∙ ap part_start (right_is e) in
     let bytes =
     ap₂ ◌++◌
-    (part_read F (left e) (left_part s.args.c) before first.before.before.before.before.area_of.ensures from)
-    (part_read F (right e) (right_part s.args.c) size second.before.before.before.before.area-of2.ensures from₂)
+    (part_read F (left e) (left_part s.args.c) before c.area_of.ensures from)
+    (part_read F (right e) (right_part s.args.c) size c.area_of-2.ensures from₂)
     in
-    same_size (same_bytes (first.put-bytes.ensures then second.put-bytes2.ensures) bytes) (omega (arith, all, before, size))
+    same_size (same_bytes (c.put_bytes-end.ensures then c.put_bytes.ensures) bytes) (omega (arith, all, before, size))
 
 pub put_join_spec : {M : Type 1} → statement M
 put_join_spec =

@@ -10,9 +10,9 @@ use Rattle.text_areas.proofs.put_spot.Tie as tie
 
 returns : tie.Need-returns
 returns c =
-    let p = c.before.before.put-u64 in
-    let a = c.before.before.before.before.before.before.args in
-    rw (← c.before.before.before.spot.ensures) (part_over a.values.now a.at (a.at + 8) 8 refl (omega arith) p.auto.0 p.ensures)
+    let p = c.put_u64 in
+    let a = c.args in
+    rw (← c.spot.ensures) (part_over a.values.now a.at (a.at + 8) 8 refl (omega arith) p.auto.buf p.ensures)
 
 pub put_spot_spec : {M : Type 1} → statement M
 put_spot_spec =

@@ -21,7 +21,7 @@ use Rattle.text_columns.proofs.Pairs.{taken_more, row_more, stored_none, stored_
 use Rattle.text_columns.proofs.note_both.Statement.{statement}
 use Rattle.text_columns.proofs.note_both.Tie as tie
 
-abbrev invariant-loop : tie.invariant-loop
+abbrev invariant-loop : tie.invariant-loop-j
 invariant-loop f left right us l bs r store₀ k₀ j₀ store k j =
     (j ≤ l)
     × (length store ≡ length store₀)
@@ -29,10 +29,10 @@ invariant-loop f left right us l bs r store₀ k₀ j₀ store k j =
     × Joins (form_of f) left right k store
     × Stored k store (firsts (same_join (form_of f) left right) (take j us))
 
-abbrev decreases-loop : tie.decreases-loop
+abbrev decreases-loop : tie.decreases-loop-j
 decreases-loop f left right us l bs r store₀ k₀ j₀ store k j = l - j
 
-abbrev invariant-loop2 : tie.invariant-loop2
+abbrev invariant-loop2 : tie.invariant-loop-m
 invariant-loop2 f left right us l bs r store₀ k₀ j m₀ store k m =
     (m ≤ r)
     × (length store ≡ length store₀)
@@ -40,12 +40,12 @@ invariant-loop2 f left right us l bs r store₀ k₀ j m₀ store k m =
     × Joins (form_of f) left right k store
     × Stored k store (firsts (same_join (form_of f) left right) (both_codes (take l us) (take m bs)))
 
-abbrev decreases-loop2 : tie.decreases-loop2
+abbrev decreases-loop2 : tie.decreases-loop-m
 decreases-loop2 f left right us l bs r store₀ k₀ j m₀ store k m = r - m
 
 -- a part of left is read
-module _ (e : tie.After-note-join-arg2 invariant-loop decreases-loop invariant-loop2 decreases-loop2) where
-  abbrev loop : tie.At-loop invariant-loop decreases-loop invariant-loop2 decreases-loop2
+module _ (e : tie.After-note_join-arg-in-loop-j-1 invariant-loop decreases-loop invariant-loop2 decreases-loop2) where
+  abbrev loop : tie.At-loop-j invariant-loop decreases-loop invariant-loop2 decreases-loop2
   loop = e.before.before.before
 
   abbrev start : tie.Start invariant-loop decreases-loop invariant-loop2 decreases-loop2
@@ -61,11 +61,11 @@ module _ (e : tie.After-note-join-arg2 invariant-loop decreases-loop invariant-l
   left_read = search rules
 
   left_lies : JoinLies (form_of start.args.f) start.args.left.now start.args.right.now (whole_bits part)
-  left_lies = lies_alone (start.pre.1.0 loop.loop.j left_next) start.pre.1.3
+  left_lies = lies_alone (start.requires.1.0 loop.loop.j left_next) start.requires.1.3
 
 -- a part of right is read
 module _ (d : tie.After-complement invariant-loop decreases-loop invariant-loop2 decreases-loop2) where
-  abbrev loop₂ : tie.At-loop2 invariant-loop decreases-loop invariant-loop2 decreases-loop2
+  abbrev loop₂ : tie.At-loop-m invariant-loop decreases-loop invariant-loop2 decreases-loop2
   loop₂ = d.before.before.before
 
   abbrev start₂ : tie.Start invariant-loop decreases-loop invariant-loop2 decreases-loop2
@@ -83,10 +83,10 @@ module _ (d : tie.After-complement invariant-loop decreases-loop invariant-loop2
       d.complement.ensures ∙ ap whole_bits read
 
   right_lies : PartLies (form_of start₂.args.f) start₂.args.right.now (whole_bits part₂)
-  right_lies = start₂.pre.1.1 loop₂.loop2.m right_next
+  right_lies = start₂.requires.1.1 loop₂.loop2.m right_next
 
 -- its join with the empty part of left
-module _ (z : tie.After-signed invariant-loop decreases-loop invariant-loop2 decreases-loop2) where
+module _ (z : tie.After-signed-z invariant-loop decreases-loop invariant-loop2 decreases-loop2) where
   abbrev read : tie.After-complement invariant-loop decreases-loop invariant-loop2 decreases-loop2
   read = z.before.before
 
@@ -95,36 +95,36 @@ module _ (z : tie.After-signed invariant-loop decreases-loop invariant-loop2 dec
       let same : to_z w64 (of_z w64 z.signed.result) ≡ z.signed.result = search rules in
       same ∙ z.signed.ensures ∙ ap as_whole (z.before.join.ensures ∙ ap (join_of 0) (right_is read))
 
-loop-holds : tie.Need-loop-init invariant-loop decreases-loop invariant-loop2 decreases-loop2
+loop-holds : tie.Need-loop-j-init invariant-loop decreases-loop invariant-loop2 decreases-loop2
 unfolding firsts firsts_from
-loop-holds c = (omega arith, refl, omega arith, λ i h. absurd (omega arith), stored_none c.before.before.args.store.now)
+loop-holds c = (omega arith, refl, omega arith, λ i h. absurd (omega arith), stored_none c.args.store.now)
 
-note-join-requires : tie.Need-note-join-requires invariant-loop decreases-loop invariant-loop2 decreases-loop2
+note-join-requires : tie.Need-note_join-k-requires invariant-loop decreases-loop invariant-loop2 decreases-loop2
 note-join-requires c κs =
     let l = (loop c).loop in
     (l.inv.2, omega (arith, l.inv.1, (start c).requires.0), l.inv.3, rw (left_read c) (left_lies c))
 
-loop-again : tie.Need-loop-preserved invariant-loop decreases-loop invariant-loop2 decreases-loop2
+loop-again : tie.Need-loop-j-preserved invariant-loop decreases-loop invariant-loop2 decreases-loop2
 loop-again c =
-    let noting = c.before.note-join in
+    let noting = c.note_join-k in
     let e = c.before.before in
     let l = (loop e).loop in
     let a = (start e).args in
     let us = a.us.now in
     let within : l.j < length us = omega (arith, left_next e, (start e).requires.0.0) in (
       omega (arith, left_next e),
-      noting.auto.1.1.1.0 ∙ l.inv.1,
-      omega (arith, noting.ensures.0, noting.auto.1.1.1.0),
+      noting.auto.store ∙ l.inv.1,
+      omega (arith, noting.ensures.0, noting.auto.store),
       noting.ensures.1,
       stored_more (same_join (form_of a.f) a.left.now a.right.now) [] (take l.j us) (take (l.j + 1) us)
           (left_read e) (taken_more us l.j within) noting.ensures.2 l.inv.4,
     )
 
-loop2-holds : tie.Need-loop2-init invariant-loop decreases-loop invariant-loop2 decreases-loop2
+loop2-holds : tie.Need-loop-m-init invariant-loop decreases-loop invariant-loop2 decreases-loop2
 loop2-holds c =
-    let l = c.before.loop in
-    let a = c.before.before.before.before.args in
-    let all : l.j ≡ a.l = omega (arith, c.loop-test.false, l.invariant.0) in
+    let l = c.loop-j in
+    let a = c.args in
+    let all : l.j ≡ a.l = omega (arith, c.loop-j-test.false, l.invariant.0) in
     let both : take l.j a.us.now ≡ both_codes (take a.l a.us.now) [] =
     ap (λ (j : ℕ). take j a.us.now) all ∙ sym (append-nil (take a.l a.us.now)) in (
       omega arith,
@@ -137,31 +137,31 @@ loop2-holds c =
 join-requires : tie.Need-join-requires invariant-loop decreases-loop invariant-loop2 decreases-loop2
 join-requires c κs = (omega arith, rw (right_is c) (right_lies c).small)
 
-note-join-requires-2 : tie.Need-note-join-requires-2 invariant-loop decreases-loop invariant-loop2 decreases-loop2
+note-join-requires-2 : tie.Need-note_join-k-requires-in-loop-m invariant-loop decreases-loop invariant-loop2 decreases-loop2
 note-join-requires-2 c κs =
     let z = c.before in
     let n = (loop₂ (read z)).loop2 in
     let s = start₂ (read z) in
     let a = s.args in (
       n.inv.2,
-      omega (arith, n.inv.1, (loop₂ (read z)).before.before.loop.inv.1, s.pre.0),
+      omega (arith, n.inv.1, (loop₂ (read z)).loop.inv.1, s.requires.0),
       n.inv.3,
-      rw (join_is z) (pair_lies (form_of a.f) a.left.now a.right.now 0 (whole_bits (part₂ (read z))) s.pre.1.2 (right_lies (read z))),
+      rw (join_is z) (pair_lies (form_of a.f) a.left.now a.right.now 0 (whole_bits (part₂ (read z))) s.requires.1.2 (right_lies (read z))),
     )
 
-loop2-again : tie.Need-loop2-preserved invariant-loop decreases-loop invariant-loop2 decreases-loop2
+loop2-again : tie.Need-loop-m-preserved invariant-loop decreases-loop invariant-loop2 decreases-loop2
 loop2-again c =
-    let noting = c.before.note-join2 in
+    let noting = c.note_join-k-in-loop-m in
     let z = c.before.before.before in
     let n = (loop₂ (read z)).loop2 in
     let s = start₂ (read z) in
     let a = s.args in
     let bs = a.bs.now in
     let code = join_code (pos 0) in
-    let within : n.m < length bs = omega (arith, right_next (read z), s.pre.0.1) in (
+    let within : n.m < length bs = omega (arith, right_next (read z), s.requires.0.1) in (
       omega (arith, right_next (read z)),
-      noting.auto.1.1.1.0 ∙ n.inv.1,
-      omega (arith, noting.ensures.0, noting.auto.1.1.1.0),
+      noting.auto.store ∙ n.inv.1,
+      omega (arith, noting.ensures.0, noting.auto.store),
       noting.ensures.1,
       stored_more (same_join (form_of a.f) a.left.now a.right.now) (take a.l a.us.now) (map code (take n.m bs)) (map code (take (n.m + 1) bs))
           (join_is z) (row_more code bs n.m within) noting.ensures.2 n.inv.4,
@@ -169,10 +169,10 @@ loop2-again c =
 
 returns : tie.Need-returns invariant-loop decreases-loop invariant-loop2 decreases-loop2
 returns c =
-    let n = c.before.loop2 in
-    let l = c.before.before.before.loop in
-    let a = c.before.before.before.before.before.before.args in
-    let all : n.m ≡ a.r = omega (arith, c.loop2-test.false, n.invariant.0) in
+    let n = c.loop-m in
+    let l = c.loop-j in
+    let a = c.args in
+    let all : n.m ≡ a.r = omega (arith, c.loop-m-test.false, n.invariant.0) in
     let same = same_join (form_of a.f) a.left.now a.right.now in (
       omega (arith, n.invariant.2, n.invariant.1, l.invariant.1),
       n.invariant.3,

@@ -3,11 +3,11 @@ use borrow.Author.Rules.{rules}
 use Rattle.text_columns.proofs.note_column.Statement.{statement}
 use Rattle.text_columns.proofs.note_column.Tie as tie
 
-returns : tie.Need-returns
-returns c = rw c.before.before.before.if1.true c.before.note-pairs.ensures
+returns : tie.Need-returns-then-joins
+returns c = rw c.if-joins.true c.note_pairs.ensures
 
-returns-2 : tie.Need-returns-2
-returns-2 c = rw c.before.before.before.if1.false c.before.note-both.ensures
+returns-2 : tie.Need-returns
+returns-2 c = rw c.if-joins.false c.note_both.ensures
 
 pub note_column_spec : {M : Type 1} → statement M
 note_column_spec =

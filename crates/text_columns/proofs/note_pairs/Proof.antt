@@ -25,7 +25,7 @@ use Rattle.text_columns.proofs.note_pairs.Tie as tie
 abbrev join_with : ℕ → ℤ → ℤ
 join_with a b = as_whole (join_of a (whole_bits b))
 
-abbrev invariant-loop2 : tie.invariant-loop2
+abbrev invariant-loop2 : tie.invariant-loop-m
 invariant-loop2 f left right us l bs r store₀ k₀ i a m₀ store k m =
     (m ≤ r)
     × (length store ≡ length store₀)
@@ -33,10 +33,10 @@ invariant-loop2 f left right us l bs r store₀ k₀ i a m₀ store k m =
     × Joins (form_of f) left right k store
     × ((cs : List ℤ) → Stored k₀ store₀ (firsts (same_join (form_of f) left right) cs) → Stored k store (firsts (same_join (form_of f) left right) (cs ++ map (join_with a) (take m bs))))
 
-abbrev decreases-loop2 : tie.decreases-loop2
+abbrev decreases-loop2 : tie.decreases-loop-m
 decreases-loop2 f left right us l bs r store₀ k₀ i a m₀ store k m = r - m
 
-abbrev invariant-loop : tie.invariant-loop
+abbrev invariant-loop : tie.invariant-loop-i
 invariant-loop f left right us l bs r store₀ k₀ i₀ store k i =
     (i ≤ l)
     × (length store ≡ length store₀)
@@ -44,12 +44,12 @@ invariant-loop f left right us l bs r store₀ k₀ i₀ store k i =
     × Joins (form_of f) left right k store
     × Stored k store (firsts (same_join (form_of f) left right) (pair_codes (take i us) (take r bs)))
 
-abbrev decreases-loop : tie.decreases-loop
+abbrev decreases-loop : tie.decreases-loop-i
 decreases-loop f left right us l bs r store₀ k₀ i₀ store k i = l - i
 
 -- a part of left is read
-module _ (e : tie.After-complement invariant-loop2 decreases-loop2 invariant-loop decreases-loop) where
-  abbrev loop : tie.At-loop invariant-loop2 decreases-loop2 invariant-loop decreases-loop
+module _ (e : tie.After-complement-a invariant-loop2 decreases-loop2 invariant-loop decreases-loop) where
+  abbrev loop : tie.At-loop-i invariant-loop2 decreases-loop2 invariant-loop decreases-loop
   loop = e.before.before.before
 
   abbrev start : tie.Start invariant-loop2 decreases-loop2 invariant-loop decreases-loop
@@ -79,11 +79,11 @@ module _ (e : tie.After-complement invariant-loop2 decreases-loop2 invariant-loo
       e.complement.ensures ∙ ap whole_bits read
 
   left_lies : PartLies F left e.complement.result
-  left_lies = subst (PartLies F left) (sym left_is) (start.pre.1.0 loop.loop.i left_next)
+  left_lies = subst (PartLies F left) (sym left_is) (start.requires.1.0 loop.loop.i left_next)
 
 -- and a part of right
-module _ (d : tie.After-complement2 invariant-loop2 decreases-loop2 invariant-loop decreases-loop) where
-  abbrev outer : tie.After-complement invariant-loop2 decreases-loop2 invariant-loop decreases-loop
+module _ (d : tie.After-complement invariant-loop2 decreases-loop2 invariant-loop decreases-loop) where
+  abbrev outer : tie.After-complement-a invariant-loop2 decreases-loop2 invariant-loop decreases-loop
   outer = d.before.before.before.before
 
   abbrev m : ℕ
@@ -98,11 +98,11 @@ module _ (d : tie.After-complement2 invariant-loop2 decreases-loop2 invariant-lo
       d.complement2.ensures ∙ ap whole_bits read
 
   right_lies : PartLies (F outer) (right outer) d.complement2.result
-  right_lies = subst (PartLies (F outer) (right outer)) (sym right_is) ((start outer).pre.1.1 m right_next)
+  right_lies = subst (PartLies (F outer) (right outer)) (sym right_is) ((start outer).requires.1.1 m right_next)
 
 -- their join
-module _ (z : tie.After-signed invariant-loop2 decreases-loop2 invariant-loop decreases-loop) where
-  abbrev parts : tie.After-complement2 invariant-loop2 decreases-loop2 invariant-loop decreases-loop
+module _ (z : tie.After-signed-z invariant-loop2 decreases-loop2 invariant-loop decreases-loop) where
+  abbrev parts : tie.After-complement invariant-loop2 decreases-loop2 invariant-loop decreases-loop
   parts = z.before.before
 
   join_is : to_z w64 (of_z w64 z.signed.result) ≡ as_whole (join_of (outer parts).complement.result parts.complement2.result)
@@ -110,27 +110,27 @@ module _ (z : tie.After-signed invariant-loop2 decreases-loop2 invariant-loop de
       let read : to_z w64 (of_z w64 z.signed.result) ≡ z.signed.result = search rules in
       read ∙ z.signed.ensures ∙ ap as_whole z.before.join.ensures
 
-loop-holds : tie.Need-loop-init invariant-loop2 decreases-loop2 invariant-loop decreases-loop
+loop-holds : tie.Need-loop-i-init invariant-loop2 decreases-loop2 invariant-loop decreases-loop
 unfolding firsts firsts_from pair_codes
 loop-holds c =
-    let a = c.before.before.args in
+    let a = c.args in
     (omega arith, refl, omega arith, λ i h. absurd (omega arith), stored_none a.store.now)
 
-loop2-holds : tie.Need-loop2-init invariant-loop2 decreases-loop2 invariant-loop decreases-loop
+loop2-holds : tie.Need-loop-m-init invariant-loop2 decreases-loop2 invariant-loop decreases-loop
 loop2-holds c =
     let l = (loop c).loop in
     (omega arith, refl, l.inv.2, l.inv.3, λ cs h. subst (λ (zs : List ℤ). Stored l.k l.store (firsts (same_join (F c) (left c) (right c)) zs)) (sym (append-nil cs)) h)
 
-loop-again : tie.Need-loop-preserved invariant-loop2 decreases-loop2 invariant-loop decreases-loop
+loop-again : tie.Need-loop-i-preserved invariant-loop2 decreases-loop2 invariant-loop decreases-loop
 loop-again c =
     let e = c.before.before in
     let l = (loop e).loop in
-    let n = c.before.loop2 in
+    let n = c.loop-m in
     let s = start e in
-    let all : n.m ≡ s.args.r = omega (arith, c.loop2-test.false, n.invariant.0) in
-    let within : l.i < length (us e) = omega (arith, left_next e, s.pre.0.0) in
+    let all : n.m ≡ s.args.r = omega (arith, c.loop-m-test.false, n.invariant.0) in
+    let within : l.i < length (us e) = omega (arith, left_next e, s.requires.0.0) in
     let done = pair_codes (take l.i (us e)) (take s.args.r (bs e)) in
-    let row : map (join_with e.complement.result) (take n.m (bs e)) ≡ map (join_code (get_or (us e) l.i (pos 0))) (take s.args.r (bs e)) =
+    let row : map (join_with c.complement-a.result) (take n.m (bs e)) ≡ map (join_code (get_or (us e) l.i (pos 0))) (take s.args.r (bs e)) =
     (λ j. map (join_with (left_is e j)) (take (all j) (bs e))) in
     let rows = ap (λ (zs : List ℤ). done ++ zs) row ∙ sym (pairs_more (us e) (take s.args.r (bs e)) l.i within) in (
       omega (arith, left_next e),
@@ -143,28 +143,28 @@ loop-again c =
 join-requires : tie.Need-join-requires invariant-loop2 decreases-loop2 invariant-loop decreases-loop
 join-requires c κs = ((left_lies (outer c)).small, (right_lies c).small)
 
-note-join-requires : tie.Need-note-join-requires invariant-loop2 decreases-loop2 invariant-loop decreases-loop
+note-join-requires : tie.Need-note_join-k-requires invariant-loop2 decreases-loop2 invariant-loop decreases-loop
 note-join-requires c κs =
     let z = c.before in
     let e = outer (parts z) in
-    let n = (parts z).before.before.before.loop2 in (
+    let n = (parts z).loop2 in (
       n.inv.2,
-      omega (arith, n.inv.1, (loop e).loop.inv.1, (start e).pre.0),
+      omega (arith, n.inv.1, (loop e).loop.inv.1, (start e).requires.0),
       n.inv.3,
       subst (λ (y : ℤ). JoinLies (F e) (left e) (right e) (whole_bits y)) (sym (join_is z)) (pair_lies (F e) (left e) (right e) _ _ (left_lies e) (right_lies (parts z))),
     )
 
-loop2-again : tie.Need-loop2-preserved invariant-loop2 decreases-loop2 invariant-loop decreases-loop
+loop2-again : tie.Need-loop-m-preserved invariant-loop2 decreases-loop2 invariant-loop decreases-loop
 loop2-again c =
-    let noting = c.before.note-join in
+    let noting = c.note_join-k in
     let z = c.before.before.before in
     let e = outer (parts z) in
-    let n = (parts z).before.before.before.loop2 in
+    let n = (parts z).loop2 in
     let a = e.complement.result in
-    let within : n.m < length (bs e) = omega (arith, right_next (parts z), (start e).pre.0.1) in (
+    let within : n.m < length (bs e) = omega (arith, right_next (parts z), (start e).requires.0.1) in (
       omega (arith, right_next (parts z)),
-      noting.auto.1.1.1.0 ∙ n.inv.1,
-      omega (arith, noting.ensures.0, noting.auto.1.1.1.0),
+      noting.auto.store ∙ n.inv.1,
+      omega (arith, noting.ensures.0, noting.auto.store),
       noting.ensures.1,
       λ cs h.
           stored_more (same_join (F e) (left e) (right e)) cs (map (join_with a) (take n.m (bs e))) (map (join_with a) (take (n.m + 1) (bs e)))
@@ -176,10 +176,9 @@ loop2-again c =
 
 returns : tie.Need-returns invariant-loop2 decreases-loop2 invariant-loop decreases-loop
 returns c =
-    let l = c.before.loop in
-    let s = c.before.before.before.before in
-    let all : l.i ≡ s.args.l = omega (arith, c.loop-test.false, l.invariant.0) in
-    let a = s.args in
+    let l = c.loop-i in
+    let all : l.i ≡ c.args.l = omega (arith, c.loop-i-test.false, l.invariant.0) in
+    let a = c.args in
     let same = same_join (form_of a.f) a.left.now a.right.now in (
       omega (arith, l.invariant.2, l.invariant.1),
       l.invariant.3,

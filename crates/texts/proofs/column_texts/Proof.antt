@@ -12,39 +12,36 @@ use Rattle.texts.specs.Code.{Starts}
 use Rattle.texts.proofs.column_texts.Statement.{statement}
 use Rattle.texts.proofs.column_texts.Tie as tie
 
-returns : tie.Need-returns
+returns : tie.Need-returns-then-sizes-eq1
 returns c =
     let q = c.before in
-    let z = q.before.before.before.before in
-    let a = z.before.before.args in
+    let a = c.args in
     let F = form_of a.f in
     let s = a.s.now in
-    let one = lists_length F s as_part ∙ sym z.sizes-at.ensures.lists ∙ q.before.before.if1.true in
-    subst (λ (l : List ℤ). Starts (firsts (same_join F s s) l) q.text-list.result q.text-list.new.1.1.1.0)
+    let one = lists_length F s as_part ∙ sym c.sizes_at-sizes.ensures.lists ∙ c.if-sizes-eq1.true in
+    subst (λ (l : List ℤ). Starts (firsts (same_join F s s) l) c.text_list.result c.text_list.new.out)
     (sym (pick_only (lists F s as_part) a.j one))
-    q.text-list.ensures
+    c.text_list.ensures
 
-text-list-requires-2 : tie.Need-text-list-requires-2
+text-list-requires-2 : tie.Need-text_list-requires-2
 text-list-requires-2 c κs =
-    let z = c.before.before.before in
-    let p = z.before.before.requires in
-    (p.0, p.1 (λ e. c.before.if1.false (z.sizes-at.ensures.lists ∙ e)), p.2)
+    let p = c.requires in
+    (p.0, p.1 (λ e. c.if-sizes-eq1.false (c.sizes_at-sizes.ensures.lists ∙ e)), p.2)
 
-returns-2 : tie.Need-returns-2
+returns-2 : tie.Need-returns
 returns-2 c =
     let q = c.before in
-    let z = q.before.before.before.before in
-    let a = z.before.before.args in
+    let a = c.args in
     let F = form_of a.f in
     let s = a.s.now in
-    let own = pick_own (lists F s as_part) a.j (λ e. q.before.before.if1.false (z.sizes-at.ensures.lists ∙ sym (lists_length F s as_part) ∙ e)) in
-    subst (λ (l : List ℤ). Starts (firsts (same_join F s s) l) q.text-list2.result q.text-list2.new.1.1.1.0) (sym own) q.text-list2.ensures
+    let own = pick_own (lists F s as_part) a.j (λ e. c.if-sizes-eq1.false (c.sizes_at-sizes.ensures.lists ∙ sym (lists_length F s as_part) ∙ e)) in
+    subst (λ (l : List ℤ). Starts (firsts (same_join F s s) l) c.text_list-2.result c.text_list-2.new.out) (sym own) c.text_list-2.ensures
 
 pub column_texts_spec : {M : Type 1} → statement M
 column_texts_spec =
     tie.close
     (tie.spec
-    (λ c κs. listed_long c.before.requires.0.listed)
+    (λ c κs. listed_long c.requires.0.listed)
     (λ c κs. search rules)
     (λ c. search rules)
     returns

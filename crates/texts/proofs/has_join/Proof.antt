@@ -19,75 +19,70 @@ use Rattle.texts.specs.Joins.{join_in, JoinLies, same_join}
 use Rattle.texts.proofs.has_join.Statement.{statement}
 use Rattle.texts.proofs.has_join.Tie as tie
 
-abbrev invariant-loop : tie.invariant-loop
+abbrev invariant-loop : tie.invariant-loop-i
 invariant-loop f left right store k z c i₀ i = (i ≤ k) × (has (same_join (form_of f) left right) (to_z w64 z) (take i store) ≡ false)
 
-abbrev decreases-loop : tie.decreases-loop
+abbrev decreases-loop : tie.decreases-loop-i
 decreases-loop f left right store k z c i₀ i = k - i
 
-loop-holds : tie.Need-loop-init invariant-loop decreases-loop
+loop-holds : tie.Need-loop-i-init invariant-loop decreases-loop
 unfolding has
 loop-holds c = (search rules, refl)
 
 -- what was read of value i
-value : (c : tie.After-complement2 invariant-loop decreases-loop)
-    → c.complement2.result ≡ whole_bits (get_or c.before.before.before.before.before.before.before.args.store.now c.before.before.before.loop.i (pos 0))
+value : (c : tie.After-complement invariant-loop decreases-loop)
+    → c.complement.result ≡ whole_bits (get_or c.args.store.now c.loop-i.i (pos 0))
 value c =
-    let z = get_or c.before.before.before.before.before.before.before.args.store.now c.before.before.before.loop.i (pos 0) in
-    c.complement2.ensures ∙ ap (of_z w64) (to_z-of_z {w = w64} {z = z} (record { sfits = c.before.complement-arg.given }))
+    let z = get_or c.args.store.now c.loop-i.i (pos 0) in
+    c.complement.ensures ∙ ap (of_z w64) (to_z-of_z {w = w64} {z = z} (record { sfits = c.complement-arg-1.given }))
 
-same-join-requires : tie.Need-same-join-requires invariant-loop decreases-loop
+same-join-requires : tie.Need-same_join-requires invariant-loop decreases-loop
 same-join-requires c κs =
-    let l = c.before.before.before.loop in
+    let l = c.loop-i in
     let z = c.before.before.before.before in
-    let s = z.before.before.before in
-    let a = s.args in
+    let a = c.args in
     let lies = JoinLies (form_of a.f) a.left.now a.right.now in
-    let test : l.i < a.k = c.before.before.loop-test.true in
-    let sought = z.complement.ensures ∙ ap (of_z w64) (to_z-of_z s.ranges.z) in
-    (subst lies (sym sought) s.requires.2, subst lies (sym (value c)) (s.requires.1 l.i test (omega (arith, test, s.requires.0))))
+    let test : l.i < a.k = c.loop-i-test.true in
+    let sought = c.complement-c.ensures ∙ ap (of_z w64) (to_z-of_z c.ranges.z) in
+    (subst lies (sym sought) c.requires.2, subst lies (sym (value c)) (c.requires.1 l.i test (omega (arith, test, c.requires.0))))
 
 -- what was answered of it
-compared : (c : tie.After-same-join invariant-loop decreases-loop)
-    → let a = c.before.before.before.before.before.before.before.before.args in
-    c.same-join.result ≡ same_join (form_of a.f) a.left.now a.right.now (to_z w64 (of_z w64 a.z)) (get_or a.store.now c.before.before.before.before.loop.i (pos 0))
+compared : (c : tie.After-same_join invariant-loop decreases-loop)
+    → let a = c.args in
+    c.same_join.result ≡ same_join (form_of a.f) a.left.now a.right.now (to_z w64 (of_z w64 a.z)) (get_or a.store.now c.loop-i.i (pos 0))
 compared c =
-    let z = c.before.before.before.before.before in
-    let a = z.before.before.before.args in
+    let a = c.args in
     let join : ℕ → List ℕ = join_in (form_of a.f) a.left.now a.right.now in
-    c.same-join.ensures ∙ ap₂ (λ (x y : ℕ). same_text (join x) (join y)) z.complement.ensures (value c.before)
+    c.same_join.ensures ∙ ap₂ (λ (x y : ℕ). same_text (join x) (join y)) c.complement-c.ensures (value c.before)
 
-returns : tie.Need-returns invariant-loop decreases-loop
+returns : tie.Need-returns-then-same_join invariant-loop decreases-loop
 returns c =
     let q = c.before in
-    let l = q.before.before.before.before.loop in
-    let s = q.before.before.before.before.before.before.before.before in
-    let a = s.args in
+    let l = c.loop-i in
+    let a = c.args in
     let store = a.store.now in
     let same = same_join (form_of a.f) a.left.now a.right.now in
-    let test : l.i < a.k = q.before.before.before.loop-test.true in
-    let here = has_here same (to_z w64 (of_z w64 a.z)) store l.i a.k (pos 0) test s.requires.0 (sym (compared q) ∙ c.if1.true) in
-    sym here ∙ ap (λ (z : ℤ). has same z (take a.k store)) (to_z-of_z s.ranges.z)
+    let test : l.i < a.k = c.loop-i-test.true in
+    let here = has_here same (to_z w64 (of_z w64 a.z)) store l.i a.k (pos 0) test c.requires.0 (sym (compared c.before) ∙ c.if-same_join.true) in
+    sym here ∙ ap (λ (z : ℤ). has same z (take a.k store)) (to_z-of_z c.ranges.z)
 
-loop-again : tie.Need-loop-preserved invariant-loop decreases-loop
+loop-again : tie.Need-loop-i-preserved invariant-loop decreases-loop
 loop-again c =
     let q = c.before in
-    let l = q.before.before.before.before.loop in
-    let s = q.before.before.before.before.before.before.before.before in
-    let a = s.args in
+    let l = c.loop-i in
+    let a = c.args in
     let store = a.store.now in
     let same = same_join (form_of a.f) a.left.now a.right.now in
-    let test : l.i < a.k = q.before.before.before.loop-test.true in
-    let room : l.i < length store = omega (arith, test, s.requires.0) in
-    (search rules, has_missing same (to_z w64 (of_z w64 a.z)) store l.i (pos 0) room l.invariant.1 (sym (compared q) ∙ c.if1.false))
+    let test : l.i < a.k = c.loop-i-test.true in
+    let room : l.i < length store = omega (arith, test, c.requires.0) in
+    (search rules, has_missing same (to_z w64 (of_z w64 a.z)) store l.i (pos 0) room l.invariant.1 (sym (compared c.before) ∙ c.if-same_join.false))
 
-returns-2 : tie.Need-returns-2 invariant-loop decreases-loop
+returns-2 : tie.Need-returns invariant-loop decreases-loop
 returns-2 c =
-    let s = c.before.before.before.before.before in
-    let a = s.args in
-    let n : c.before.loop.i ≡ a.k = omega arith in
+    let a = c.args in
+    let n : c.loop-i.i ≡ a.k = omega arith in
     let same = same_join (form_of a.f) a.left.now a.right.now in
-    sym (ap₂ (λ (z : ℤ) (k : ℕ). has same z (take k a.store.now)) (sym (to_z-of_z s.ranges.z)) (sym n) ∙ c.before.loop.invariant.1)
+    sym (ap₂ (λ (z : ℤ) (k : ℕ). has same z (take k a.store.now)) (sym (to_z-of_z c.ranges.z)) (sym n) ∙ c.loop-i.invariant.1)
 
 pub has_join_spec : {M : Type 1} → statement M
 has_join_spec =

@@ -12,43 +12,40 @@ use Rattle.texts.proofs.join_byte.Tie as tie
 
 -- how many bytes the left part has, as the code reads it
 left_length : (c : tie.After-part-length) → c.part_length.result ≡ part_length (left_part c.before.before.before.before.args.c)
-left_length c = c.part_length.ensures.0 ∙ ap part_length c.before.left-part.ensures.0
+left_length c = c.part_length.ensures.0 ∙ ap part_length c.before.left_part-p.ensures.0
 
 behind : {i n m r : ℕ} → i < n + m → n ≤ i → m ≡ r → i - n < r
 behind h k e = omega arith
 
-returns : tie.Need-returns
+returns : tie.Need-returns-then-i-n
 returns c =
     let n = c.before.before in
-    let b = n.before.before.before.before in
-    let a = b.args in
+    let a = c.args in
     let F = form_of a.f in
     let left = a.left.now in
-    let h = subst (λ (k : ℕ). a.i < k) (left_length n) c.before.if1.true in
-    c.part-byte.ensures ∙ ap (λ (p : ℕ). get_or (part_in F left p) a.i 0) n.before.left-part.ensures.0 ∙ sym (join_left F b.requires.0 a.i h)
+    let h = subst (λ (k : ℕ). a.i < k) (left_length n) c.if-i-n.true in
+    c.part_byte.ensures ∙ ap (λ (p : ℕ). get_or (part_in F left p) a.i 0) c.left_part-p.ensures.0 ∙ sym (join_left F c.requires.0 a.i h)
 
-part-byte-requires-2 : tie.Need-part-byte-requires-2
+part-byte-requires-2 : tie.Need-part_byte-requires-2
 part-byte-requires-2 c κs =
     let n = c.before.before in
-    let b = n.before.before.before.before in
-    let a = b.args in
-    let q = c.right-part.ensures.0 in
-    let above = subst (λ (k : ℕ). k ≤ a.i) (left_length n) c.before.if1.false in (
-      subst (PartLies (form_of a.f) a.right.now) (sym q) b.requires.0.rights,
-      subst (λ (k : ℕ). a.i - k < part_length c.right-part.result) (sym (left_length n)) (behind b.requires.1 above (sym (ap part_length q))),
+    let a = c.args in
+    let q = c.right_part.ensures.0 in
+    let above = subst (λ (k : ℕ). k ≤ a.i) (left_length n) c.if-i-n.false in (
+      subst (PartLies (form_of a.f) a.right.now) (sym q) c.requires.0.rights,
+      subst (λ (k : ℕ). a.i - k < part_length c.right_part.result) (sym (left_length n)) (behind c.requires.1 above (sym (ap part_length q))),
     )
 
-returns-2 : tie.Need-returns-2
+returns-2 : tie.Need-returns
 returns-2 c =
     let n = c.before.before.before in
-    let b = n.before.before.before.before in
-    let a = b.args in
+    let a = c.args in
     let F = form_of a.f in
     let right = a.right.now in
-    let m = n.part_length.result in
-    c.part-byte2.ensures
-    ∙ ap (λ (p : ℕ). get_or (part_in F right p) (a.i - m) 0) c.before.right-part.ensures.0
-    ∙ sym (join_right F b.requires.0 a.i m (left_length n) c.before.before.if1.false)
+    let m = c.part_length.result in
+    c.part_byte-2.ensures
+    ∙ ap (λ (p : ℕ). get_or (part_in F right p) (a.i - m) 0) c.right_part.ensures.0
+    ∙ sym (join_right F c.requires.0 a.i m (left_length n) c.if-i-n.false)
 
 pub join_byte_spec : {M : Type 1} → statement M
 join_byte_spec =

@@ -10,12 +10,11 @@ use Rattle.texts.proofs.part_byte.Tie as tie
 
 returns : tie.Need-returns
 returns c =
-    let b = c.before.before.before.before in
-    let a = b.args in
+    let a = c.args in
     let s = a.s.now in
     c.byte_at.ensures
-    ∙ ap₂ (λ (x y : ℕ). get_or s (x + y + a.i) 0) c.before.before.area_of.ensures c.before.part-start.ensures.0
-    ∙ sym (part_at (form_of a.f) s a.p a.i b.requires.1)
+    ∙ ap₂ (λ (x y : ℕ). get_or s (x + y + a.i) 0) c.area_of.ensures c.part_start.ensures.0
+    ∙ sym (part_at (form_of a.f) s a.p a.i c.requires.1)
 
 pub part_byte_spec : {M : Type 1} → statement M
 part_byte_spec =

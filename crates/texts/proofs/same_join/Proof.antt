@@ -14,7 +14,7 @@ use Rattle.texts.proofs.Bytes.{join_size, same_lengths, same_more, same_end}
 use Rattle.texts.proofs.same_join.Statement.{statement}
 use Rattle.texts.proofs.same_join.Tie as tie
 
-abbrev invariant-loop : tie.invariant-loop
+abbrev invariant-loop : tie.invariant-loop-i
 invariant-loop f left right a b n i₀ i =
     let x = join_in (form_of f) left right a in
     let y = join_in (form_of f) left right b in
@@ -25,70 +25,66 @@ invariant-loop f left right a b n i₀ i =
     × (length y ≡ n)
     × (same_text (drop i x) (drop i y) ≡ same_text x y)
 
-abbrev decreases-loop : tie.decreases-loop
+abbrev decreases-loop : tie.decreases-loop-i
 decreases-loop f left right a b n i₀ i = n - i
 
-returns : tie.Need-returns invariant-loop decreases-loop
+returns : tie.Need-returns-then-n-join_length invariant-loop decreases-loop
 returns c =
     let m = c.before in
     let n = m.before in
-    let s = n.before.before.before in
-    let a = s.args in
+    let a = c.args in
     let F = form_of a.f in
     let x = join_in F a.left.now a.right.now a.a in
     let y = join_in F a.left.now a.right.now a.b in
-    let first = n.join-length.ensures ∙ sym (join_size F s.requires.0) in
-    let second = m.join-length2.ensures ∙ sym (join_size F s.requires.1) in
-    sym (same_lengths x y (λ e. c.if1.true (first ∙ e ∙ sym second)))
+    let first = c.join_length-n.ensures ∙ sym (join_size F c.requires.0) in
+    let second = c.join_length.ensures ∙ sym (join_size F c.requires.1) in
+    sym (same_lengths x y (λ e. c.if-n-join_length.true (first ∙ e ∙ sym second)))
 
-loop-holds : tie.Need-loop-init invariant-loop decreases-loop
+loop-holds : tie.Need-loop-i-init invariant-loop decreases-loop
 loop-holds c =
     let m = c.before in
     let n = m.before in
-    let s = n.before.before.before in
-    let F = form_of s.args.f in
-    let first = n.join-length.ensures in
-    let second = c.if1.false ∙ m.join-length2.ensures in
-    (omega arith, first, second, join_size F s.requires.0 ∙ sym first, join_size F s.requires.1 ∙ sym second, refl)
+    let F = form_of c.args.f in
+    let first = c.join_length-n.ensures in
+    let second = c.if-n-join_length.false ∙ c.join_length.ensures in
+    (omega arith, first, second, join_size F c.requires.0 ∙ sym first, join_size F c.requires.1 ∙ sym second, refl)
 
-returns-2 : tie.Need-returns-2 invariant-loop decreases-loop
+returns-2 : tie.Need-returns-then-join_byte invariant-loop decreases-loop
 returns-2 c =
     let q = c.before in
     let p = q.before in
-    let t = p.before in
-    let l = t.before.loop in
-    let a = t.before.before.before.before.before.before.before.args in
+    let l = c.loop-i in
+    let a = c.args in
     let F = form_of a.f in
     let x = join_in F a.left.now a.right.now a.a in
     let y = join_in F a.left.now a.right.now a.b in
     let rest = same_text (drop (l.i + 1) x) (drop (l.i + 1) y) in
-    let other = ne_eqb (get_or x l.i 0) (get_or y l.i 0) (λ e. c.if2.true (p.join-byte.ensures ∙ e ∙ sym q.join-byte2.ensures)) in
-    let more = same_more x y l.i (omega (arith, t.loop-test.true, l.invariant.3)) (omega (arith, t.loop-test.true, l.invariant.4)) in
+    let other = ne_eqb (get_or x l.i 0) (get_or y l.i 0) (λ e. c.if-join_byte.true (c.join_byte.ensures ∙ e ∙ sym c.join_byte-in-loop-i.ensures)) in
+    let more = same_more x y l.i (omega (arith, c.loop-i-test.true, l.invariant.3)) (omega (arith, c.loop-i-test.true, l.invariant.4)) in
     sym (sym l.invariant.5 ∙ more ∙ ap (λ (e : Bool). e && rest) other)
 
-loop-again : tie.Need-loop-preserved invariant-loop decreases-loop
+loop-again : tie.Need-loop-i-preserved invariant-loop decreases-loop
 loop-again c =
     let q = c.before in
     let p = q.before in
-    let t = p.before in
-    let l = t.before.loop in
-    let a = t.before.before.before.before.before.before.before.args in
+    let l = c.loop-i in
+    let a = c.args in
     let F = form_of a.f in
     let x = join_in F a.left.now a.right.now a.a in
     let y = join_in F a.left.now a.right.now a.b in
     let rest = same_text (drop (l.i + 1) x) (drop (l.i + 1) y) in
-    let same = eq-eqb (get_or x l.i 0) (get_or y l.i 0) (sym p.join-byte.ensures ∙ c.if2.false ∙ q.join-byte2.ensures) in
-    let more = same_more x y l.i (omega (arith, t.loop-test.true, l.invariant.3)) (omega (arith, t.loop-test.true, l.invariant.4)) in
-    (omega (arith, t.loop-test.true), l.invariant.1, l.invariant.2, l.invariant.3, l.invariant.4, sym (more ∙ ap (λ (e : Bool). e && rest) same) ∙ l.invariant.5)
+    let same = eq-eqb (get_or x l.i 0) (get_or y l.i 0) (sym c.join_byte.ensures ∙ c.if-join_byte.false ∙ c.join_byte-in-loop-i.ensures) in
+    let more = same_more x y l.i (omega (arith, c.loop-i-test.true, l.invariant.3)) (omega (arith, c.loop-i-test.true, l.invariant.4)) in
+    (omega (arith, c.loop-i-test.true), l.invariant.1, l.invariant.2, l.invariant.3, l.invariant.4, sym (more ∙ ap (λ (e : Bool). e && rest) same) ∙ l.invariant.5)
 
-returns-3 : tie.Need-returns-3 invariant-loop decreases-loop
+returns-3 : tie.Need-returns invariant-loop decreases-loop
 returns-3 c =
-    let l = c.before.loop in
-    let a = c.before.before.before.before.before.before.before.args in
+    let l = c.loop-i in
+    let a = c.args in
     let F = form_of a.f in
     let x = join_in F a.left.now a.right.now a.a in
     let y = join_in F a.left.now a.right.now a.b in
-    sym (same_end x y l.i (omega (arith, c.loop-test.false, l.invariant.3)) (omega (arith, c.loop-test.false, l.invariant.4))) ∙ l.invariant.5
+    sym (same_end x y l.i (omega (arith, c.loop-i-test.false, l.invariant.3)) (omega (arith, c.loop-i-test.false, l.invariant.4))) ∙ l.invariant.5
 
 pub same_join_spec : {M : Type 1} → statement M
 same_join_spec =

@@ -10,7 +10,7 @@ use lib.Seq.{length-take-le}
 use mir.Syntax.{w64}
 use mir.Val.{to_z, of_z}
 use borrow.Author.Rules.{rules}
-use Rattle.bytes.specs.Le.{le_at}
+use Rattle.octets.specs.Le.{le_at}
 use Rattle.utilities.specs.Lists.{firsts}
 use Rattle.utilities.proofs.Firsts.{noted_length}
 use Rattle.base.specs.Form.{form_of}
@@ -27,7 +27,7 @@ use Rattle.texts.proofs.Noting.{Taking, taking_start, taking_same, taking_noted,
 use Rattle.texts.proofs.text_list.Statement.{statement}
 use Rattle.texts.proofs.text_list.Tie as tie
 
-abbrev invariant-loop : tie.invariant-loop
+abbrev invariant-loop : tie.invariant-loop-i
 invariant-loop f s j out₀ g lists t n₀ i₀ out n i =
     let F = form_of f in
     ListsFit F s g lists t
@@ -37,119 +37,112 @@ invariant-loop f s j out₀ g lists t n₀ i₀ out n i =
     × Joins F s s n out
     × Taking (same_join F s s) n out (list_at F s as_part g t j (t - i) i) (firsts (same_join F s s) (get_or (listsIn F s as_part) j []))
 
-abbrev decreases-loop : tie.decreases-loop
+abbrev decreases-loop : tie.decreases-loop-i
 decreases-loop f s j out₀ g lists t n₀ i₀ out n i = t - i
 
-sizes-at-requires : tie.Need-sizes-at-requires invariant-loop decreases-loop
-sizes-at-requires c κs = listed_long c.before.requires.0.listed
+sizes-at-requires : tie.Need-sizes_at-sizes-requires invariant-loop decreases-loop
+sizes-at-requires c κs = listed_long c.requires.0.listed
 
-loop-holds : tie.Need-loop-init invariant-loop decreases-loop
+loop-holds : tie.Need-loop-i-init invariant-loop decreases-loop
 loop-holds c =
-    let p = c.before.before in
-    let a = p.args in
+    let a = c.args in
     let F = form_of a.f in
     let s = a.s.now in
-    let fit = listed_fits p.requires.0.listed c.sizes-at.ensures in
-    let from = lists_from F s as_part a.j fit p.requires.1 in
+    let fit = listed_fits c.requires.0.listed c.sizes_at-sizes.ensures in
+    let from = lists_from F s as_part a.j fit c.requires.1 in
     (fit, search rules, search rules, refl, λ i h. absurd (omega (arith, h)), taking_start (same_join F s s) a.out.now (ap (firsts (same_join F s s)) from))
 
-list-number-requires : tie.Need-list-number-requires invariant-loop decreases-loop
-list-number-requires c κs = (c.before.loop.invariant.0, c.loop-test.true)
+list-number-requires : tie.Need-list_number-number-requires invariant-loop decreases-loop
+list-number-requires c κs = (c.loop-i.invariant.0, c.loop-i-test.true)
 
-value-at-requires : tie.Need-value-at-requires invariant-loop decreases-loop
-value-at-requires c κs = let f = c.before.before.loop.invariant.0 in (f.groups_within, f.categories_within, omega arith)
+value-at-requires : tie.Need-value_at-at-requires invariant-loop decreases-loop
+value-at-requires c κs = let f = c.loop-i.invariant.0 in (f.groups_within, f.categories_within, omega arith)
 
-loop-again : tie.Need-loop-preserved invariant-loop decreases-loop
+loop-again : tie.Need-loop-i-preserved-then-number-j invariant-loop decreases-loop
 loop-again c =
     let q = c.before.before in
-    let l = q.before.before.loop in
-    let z = q.before.before.before in
-    let a = z.before.before.args in
+    let l = c.loop-i in
+    let a = c.args in
     let F = form_of a.f in
     let s = a.s.now in
-    let g = z.sizes-at.result.groups in
-    let t = z.sizes-at.result.categories in
-    let other : list_number F s g l.i ≡ a.j → ⊥ = λ e. c.if1.true (q.list-number.ensures ∙ e) in
-    (l.invariant.0, search rules, omega arith, l.invariant.3, l.invariant.4, taking_same l.invariant.5 (list_skips F s as_part g t a.j l.i q.before.loop-test.true other))
+    let g = c.sizes_at-sizes.result.groups in
+    let t = c.sizes_at-sizes.result.categories in
+    let other : list_number F s g l.i ≡ a.j → ⊥ = λ e. c.if-number-j.true (c.list_number-number.ensures ∙ e) in
+    (l.invariant.0, search rules, omega arith, l.invariant.3, l.invariant.4, taking_same l.invariant.5 (list_skips F s as_part g t a.j l.i c.loop-i-test.true other))
 
-u64-at-requires : tie.Need-u64-at-requires invariant-loop decreases-loop
+u64-at-requires : tie.Need-u64_at-requires invariant-loop decreases-loop
 u64-at-requires c κs =
-    let v = c.before in
-    let l = v.before.before.before.loop in
-    omega (arith, value_stands l.invariant.0 v.before.before.loop-test.true, v.value-at.ensures)
+    let l = c.loop-i in
+    omega (arith, value_stands l.invariant.0 c.loop-i-test.true, c.value_at-at.ensures)
 
 -- the value that was read
-read : (c : tie.After-u64-at invariant-loop decreases-loop)
-    → let z = c.before.before.before.before.before.before in
-    let a = z.before.before.args in
-    c.u64-at.result
-    ≡ category_at (form_of a.f) a.s.now z.sizes-at.result.groups z.sizes-at.result.categories c.before.before.before.before.before.loop.i
+read : (c : tie.After-u64_at invariant-loop decreases-loop)
+    →
+    let a = c.args in
+    c.u64_at.result
+    ≡ category_at (form_of a.f) a.s.now c.sizes_at-sizes.result.groups c.sizes_at-sizes.result.categories c.loop-i.i
 read c =
-    let a = c.before.before.before.before.before.before.before.before.args in
-    c.u64-at.ensures ∙ ap (λ (k : ℕ). le_at 8 k a.s.now) c.before.before.value-at.ensures
+    let a = c.args in
+    c.u64_at.ensures ∙ ap (λ (k : ℕ). le_at 8 k a.s.now) c.value_at-at.ensures
 
-part-requires : tie.Need-part-requires invariant-loop decreases-loop
+part-requires : tie.Need-part-p-requires invariant-loop decreases-loop
 part-requires c κs =
-    let p = c.before.before.before.before.before.before.before.before in
-    let l = c.before.before.before.before.before.loop in
-    let b = read_small (laid p.args.f) p.requires.0 l.invariant.0 l.i c.before.before.before.before.loop-test.true in
+    let l = c.loop-i in
+    let b = read_small (laid c.args.f) c.requires.0 l.invariant.0 l.i c.loop-i-test.true in
     subst (λ (v : ℕ). (start_in v < 2 ^ 16) × (length_in v < 2 ^ 16)) (sym (read c)) b
 
 -- the number that stands for it
 named : (c : tie.After-signed invariant-loop decreases-loop)
-    → let z = c.before.before.before.before.before.before.before.before.before in
-    let a = z.before.before.args in
+    →
+    let a = c.args in
     to_z w64 (of_z w64 c.signed.result)
-    ≡ as_part (category_at (form_of a.f) a.s.now z.sizes-at.result.groups z.sizes-at.result.categories c.before.before.before.before.before.before.before.before.loop.i)
+    ≡ as_part (category_at (form_of a.f) a.s.now c.sizes_at-sizes.result.groups c.sizes_at-sizes.result.categories c.loop-i.i)
 named c =
     let back : to_z w64 (of_z w64 c.signed.result) ≡ c.signed.result = search rules in
-    back ∙ c.signed.ensures ∙ ap as_whole c.before.before.part.ensures.0 ∙ ap as_part (read c.before.before.before)
+    back ∙ c.signed.ensures ∙ ap as_whole c.part-p.ensures.0 ∙ ap as_part (read c.before.before.before)
 
-note-join-requires : tie.Need-note-join-requires invariant-loop decreases-loop
+note-join-requires : tie.Need-note_join-n-requires invariant-loop decreases-loop
 note-join-requires c κs =
-    let l = c.before.before.before.before.before.before.before.before.loop in
-    let p = c.before.before.before.before.before.before.before.before.before.before.before in
-    let a = p.args in
+    let l = c.loop-i in
+    let a = c.args in
     let F = form_of a.f in
     let s = a.s.now in
-    let test = c.before.before.before.before.before.before.before.loop-test.true in
-    let lies = lies_alone (read_lies (laid a.f) p.requires.0 l.invariant.0 l.i test) (empty_lies p.requires.0.listed) in (
+    let test = c.loop-i-test.true in
+    let lies = lies_alone (read_lies (laid a.f) c.requires.0 l.invariant.0 l.i test) (empty_lies c.requires.0.listed) in (
       omega (arith, l.invariant.5.room),
-      omega (arith, l.invariant.3, p.requires.2, (small a.f).categories),
+      omega (arith, l.invariant.3, c.requires.2, (small a.f).categories),
       l.invariant.4,
       subst (λ (x : ℤ). JoinLies F s s (whole_bits x)) (sym (named c)) lies,
     )
 
-loop-again-2 : tie.Need-loop-preserved-2 invariant-loop decreases-loop
+loop-again-2 : tie.Need-loop-i-preserved invariant-loop decreases-loop
 loop-again-2 c =
     let n = c.before in
     let q = n.before.before.before.before.before.before.before in
-    let test : q.before.before.loop.i < q.before.before.before.sizes-at.result.categories = q.before.loop-test.true in
-    let l = q.before.before.loop in
+    let test : c.loop-i.i < c.sizes_at-sizes.result.categories = c.loop-i-test.true in
+    let l = c.loop-i in
     let z = q.before.before.before in
-    let p = z.before.before in
-    let a = p.args in
+    let a = c.args in
     let F = form_of a.f in
     let s = a.s.now in
-    let g = z.sizes-at.result.groups in
-    let t = z.sizes-at.result.categories in
+    let g = c.sizes_at-sizes.result.groups in
+    let t = c.sizes_at-sizes.result.categories in
     let same = same_join F s s in
-    let x = to_z w64 (of_z w64 n.before.signed.result) in
-    let own = sym q.list-number.ensures ∙ n.before.before.before.before.before.if1.false in
+    let x = to_z w64 (of_z w64 c.signed.result) in
+    let own = sym c.list_number-number.ensures ∙ c.if-number-j.false in
     let rest = list_at F s as_part g t a.j (t - (l.i + 1)) (l.i + 1) in
-    let has = list_has F s as_part g t a.j l.i test own ∙ ap (λ (y : ℤ). y ∷ rest) (sym (named n.before)) in
-    let free : l.n < length l.out = omega (arith, l.invariant.2, l.invariant.3, test, l.invariant.0.categories_within, p.requires.2) in
-    let kept = n.note-join.auto.1.1.1.0 in
-    let noted = taking_noted l.invariant.5 x free kept n.note-join.ensures.2 in
-    let size : n.note-join.result ≤ l.i + 1 = omega (arith, noted.count, noted_length same (take l.n l.out) x, length-take-le l.n l.out l.invariant.5.room, l.invariant.2) in
-    (l.invariant.0, omega (arith, test), size, kept ∙ l.invariant.3, n.note-join.ensures.1, taking_note l.invariant.5 has noted)
+    let has = list_has F s as_part g t a.j l.i test own ∙ ap (λ (y : ℤ). y ∷ rest) (sym (named c.before.before)) in
+    let free : l.n < length l.out = omega (arith, l.invariant.2, l.invariant.3, test, l.invariant.0.categories_within, c.requires.2) in
+    let kept = c.note_join-n.auto.store in
+    let noted = taking_noted l.invariant.5 x free kept c.note_join-n.ensures.2 in
+    let size : c.note_join-n.result ≤ l.i + 1 = omega (arith, noted.count, noted_length same (take l.n l.out) x, length-take-le l.n l.out l.invariant.5.room, l.invariant.2) in
+    (l.invariant.0, omega (arith, test), size, kept ∙ l.invariant.3, c.note_join-n.ensures.1, taking_note l.invariant.5 has noted)
 
 returns : tie.Need-returns invariant-loop decreases-loop
 returns c =
-    let l = c.before.loop in
-    let z = c.before.before in
-    let a = z.before.before.args in
-    taking_done l.invariant.5 (list_end (form_of a.f) a.s.now as_part z.sizes-at.result.groups z.sizes-at.result.categories a.j l.i c.loop-test.false)
+    let l = c.loop-i in
+    let a = c.args in
+    taking_done l.invariant.5 (list_end (form_of a.f) a.s.now as_part c.sizes_at-sizes.result.groups c.sizes_at-sizes.result.categories a.j l.i c.loop-i-test.false)
 
 pub text_list_spec : {M : Type 1} → statement M
 text_list_spec =
@@ -170,5 +163,5 @@ text_list_spec =
     note-join-requires
     (λ c. search rules)
     loop-again-2
-    (λ c. c.before.loop.invariant.3)
+    (λ c. c.loop-i.invariant.3)
     returns)

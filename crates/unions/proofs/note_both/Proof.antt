@@ -17,12 +17,12 @@ use Rattle.unions.proofs.note_both.Tie as tie
 returns : tie.Need-returns
 unfolding firsts
 returns c =
-    let second = c.before.before.before.note-values2 in
-    let first = c.before.before.before.before.before.before.before.before.before.note-values in
-    let a = c.before.before.before.before.before.before.before.before.before.before.before.before.before.before.before.before.before.args in
+    let second = c.note_values in
+    let first = c.note_values-m in
+    let a = c.args in
     let stored = second.ensures.2 _ (first.ensures.2 [] (stored_list a.store.now (omega arith))) in
     let both = sym (firsts_from_append eq_z [] (take a.l a.us.now) (take a.r a.bs.now)) in
-    (omega (arith, second.ensures.0, first.auto.0), subst (Stored second.result second.new.0) both stored)
+    (omega (arith, second.ensures.0, first.auto.store), subst (Stored second.result second.new.store) both stored)
 
 pub note_both_spec : {M : Type 1} → statement M
 note_both_spec =

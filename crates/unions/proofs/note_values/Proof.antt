@@ -28,7 +28,7 @@ next seen values i read h =
     ∙ ap (firsts_from eq_z seen) (sym (take-suc values i (pos 0) h))
     ∙ ap (λ (k : ℕ). firsts_from eq_z seen (take k values)) (sym (add-one i))
 
-abbrev invariant-loop : tie.invariant-loop
+abbrev invariant-loop : tie.invariant-loop-i
 invariant-loop store₀ k values n hints₀ count₀ i₀ store hints count i =
     (i ≤ n)
     × (length store ≡ length store₀)
@@ -36,43 +36,41 @@ invariant-loop store₀ k values n hints₀ count₀ i₀ store hints count i =
     × Hinting hints (take count store)
     × ((seen : List ℤ) → Stored k store₀ seen → Stored count store (firsts_from eq_z seen (take i values)))
 
-abbrev decreases-loop : tie.decreases-loop
+abbrev decreases-loop : tie.decreases-loop-i
 decreases-loop store₀ k values n hints₀ count₀ i₀ store hints count i = n - i
 
-loop-holds : tie.Need-loop-init invariant-loop decreases-loop
+loop-holds : tie.Need-loop-i-init invariant-loop decreases-loop
 unfolding firsts_from
-loop-holds c = let p = c.before.requires in (search rules, refl, p.0, p.3, λ seen h. h)
+loop-holds c = let p = c.requires in (search rules, refl, p.0, p.3, λ seen h. h)
 
-note-result-requires : tie.Need-note-result-requires invariant-loop decreases-loop
+note-result-requires : tie.Need-note_result-count-requires invariant-loop decreases-loop
 note-result-requires c κs =
-    let l = c.before.before.before.before.loop in
-    (l.invariant.2, omega (arith, l.invariant.1, c.before.before.before.before.before.before.requires.1), l.invariant.3)
+    let l = c.loop-i in
+    (l.invariant.2, omega (arith, l.invariant.1, c.requires.1), l.invariant.3)
 
-loop-again : tie.Need-loop-preserved invariant-loop decreases-loop
+loop-again : tie.Need-loop-i-preserved invariant-loop decreases-loop
 loop-again c =
-    let noting = c.before.before.before.note-result in
+    let noting = c.note_result-count in
     let t = c.before.before.before.before.before.before.before in
-    let l = t.before.loop in
-    let s = t.before.before.before in
-    let values = s.args.values.now in
+    let l = c.loop-i in
+    let values = c.args.values.now in
     let v = to_z w64 (of_z w64 (get_or values l.i (pos 0))) in
     let read : v ≡ get_or values l.i (pos 0) = search rules in
-    let within : l.i < length values = omega (arith, t.loop-test.true, s.requires.2) in (
-      omega (arith, t.loop-test.true),
-      noting.auto.0 ∙ l.invariant.1,
-      omega (arith, noting.ensures.0, noting.auto.0),
+    let within : l.i < length values = omega (arith, c.loop-i-test.true, c.requires.2) in (
+      omega (arith, c.loop-i-test.true),
+      noting.auto.store ∙ l.invariant.1,
+      omega (arith, noting.ensures.0, noting.auto.store),
       noting.ensures.1,
-      λ seen h. subst (Stored noting.result noting.new.0) (next seen values l.i read within) (noting.ensures.2 _ (l.invariant.4 seen h)),
+      λ seen h. subst (Stored noting.result noting.new.store) (next seen values l.i read within) (noting.ensures.2 _ (l.invariant.4 seen h)),
     )
 
 returns : tie.Need-returns invariant-loop decreases-loop
 returns c =
-    let l = c.before.loop in
-    let s = c.before.before.before in
-    let all : l.i ≡ s.args.n = omega (arith, c.loop-test.false, l.invariant.0) in (
+    let l = c.loop-i in
+    let all : l.i ≡ c.args.n = omega (arith, c.loop-i-test.false, l.invariant.0) in (
       omega (arith, l.invariant.2, l.invariant.1),
       l.invariant.3,
-      λ seen h. subst (λ (k : ℕ). Stored l.count l.store (firsts_from eq_z seen (take k s.args.values.now))) all (l.invariant.4 seen h),
+      λ seen h. subst (λ (k : ℕ). Stored l.count l.store (firsts_from eq_z seen (take k c.args.values.now))) all (l.invariant.4 seen h),
     )
 
 pub note_values_spec : {M : Type 1} → statement M

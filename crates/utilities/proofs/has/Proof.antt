@@ -17,39 +17,36 @@ use Rattle.utilities.proofs.Firsts.{has_here, has_missing}
 use Rattle.utilities.proofs.has.Statement.{statement}
 use Rattle.utilities.proofs.has.Tie as tie
 
-abbrev invariant-loop : tie.invariant-loop
+abbrev invariant-loop : tie.invariant-loop-i
 invariant-loop s n x i₀ i = (i ≤ n) × (has eq_z (to_z w64 x) (take i s) ≡ false)
 
-abbrev decreases-loop : tie.decreases-loop
+abbrev decreases-loop : tie.decreases-loop-i
 decreases-loop s n x i₀ i = n - i
 
-loop-holds : tie.Need-loop-init invariant-loop decreases-loop
+loop-holds : tie.Need-loop-i-init invariant-loop decreases-loop
 unfolding has
 loop-holds c = (search rules, refl)
 
-returns : tie.Need-returns invariant-loop decreases-loop
+returns : tie.Need-returns-then-s-i invariant-loop decreases-loop
 returns c =
-    let b = c.before.before.before.before in
-    let s = b.args.s.now in
-    let i = c.before.before.before.loop.i in
-    let e = bits_inj (record { sfits = c.before.if12.given }) b.ranges.x c.if1.true in
-    sym (has_here eq_z b.args.x s i b.args.n (pos 0) c.before.before.loop-test.true b.requires (eq_z_yes b.args.x (get_or s i (pos 0)) (sym e)))
+    let s = c.args.s.now in
+    let i = c.loop-i.i in
+    let e = bits_inj (record { sfits = c.t8-1.given }) c.ranges.x c.if-s-i.true in
+    sym (has_here eq_z c.args.x s i c.args.n (pos 0) c.loop-i-test.true c.requires (eq_z_yes c.args.x (get_or s i (pos 0)) (sym e)))
 
-loop-again : tie.Need-loop-preserved invariant-loop decreases-loop
+loop-again : tie.Need-loop-i-preserved invariant-loop decreases-loop
 loop-again c =
-    let b = c.before.before.before.before in
-    let l = c.before.before.before.loop in
-    let s = b.args.s.now in
-    let x = to_z w64 (of_z w64 b.args.x) in
+    let l = c.loop-i in
+    let s = c.args.s.now in
+    let x = to_z w64 (of_z w64 c.args.x) in
     let h : l.i < length s = omega arith in
-    let other = eq_z_no x (get_or s l.i (pos 0)) (λ q. c.if1.false (ap (of_z w64) (sym q ∙ to_z-of_z b.ranges.x))) in
+    let other = eq_z_no x (get_or s l.i (pos 0)) (λ q. c.if-s-i.false (ap (of_z w64) (sym q ∙ to_z-of_z c.ranges.x))) in
     (search rules, has_missing eq_z x s l.i (pos 0) h l.invariant.1 other)
 
-returns-2 : tie.Need-returns-2 invariant-loop decreases-loop
+returns-2 : tie.Need-returns invariant-loop decreases-loop
 returns-2 c =
-    let b = c.before.before in
-    let n : c.before.loop.i ≡ b.args.n = omega arith in
-    sym (ap₂ (λ (z : ℤ) (k : ℕ). has eq_z z (take k b.args.s.now)) (sym (to_z-of_z b.ranges.x)) (sym n) ∙ c.before.loop.invariant.1)
+    let n : c.loop-i.i ≡ c.args.n = omega arith in
+    sym (ap₂ (λ (z : ℤ) (k : ℕ). has eq_z z (take k c.args.s.now)) (sym (to_z-of_z c.ranges.x)) (sym n) ∙ c.loop-i.invariant.1)
 
 pub has_spec : {M : Type 1} → statement M
 has_spec =

@@ -15,30 +15,26 @@ use Rattle.utilities.proofs.Hints.{hint_within}
 use Rattle.utilities.proofs.has_hinted.Statement.{statement}
 use Rattle.utilities.proofs.has_hinted.Tie as tie
 
-shared-slice-read-wide : tie.Need-shared-slice-read-wide
+shared-slice-read-wide : tie.Need-bounds-hints-at
 shared-slice-read-wide c =
-    let b = c.before.before in
-    omega (arith, b.requires.1.size, b.requires.2, hint_within b.args.x)
+    omega (arith, c.requires.1.size, c.requires.2, hint_within c.args.x)
 
-returns : tie.Need-returns
+returns : tie.Need-returns-then-hint-eq0
 returns c =
-    let b = c.before.before.before.before in
-    let zero = ap (λ (k : ℕ). get_or b.args.hints.now k 0) (sym b.requires.2) ∙ sym c.before.wide.ensures.0 ∙ c.if1.true in
-    sym (b.requires.1.new b.args.x zero)
+    let zero = ap (λ (k : ℕ). get_or c.args.hints.now k 0) (sym c.requires.2) ∙ sym c.wide-hint.ensures.0 ∙ c.if-hint-eq0.true in
+    sym (c.requires.1.new c.args.x zero)
 
-returns-2 : tie.Need-returns-2
+returns-2 : tie.Need-returns-then-s-hint
 returns-2 c =
-    let b = c.before.before.before.before.before.before.before in
-    let k = c.before.before.before.before.wide.result - 1 in
-    let s = b.args.s.now in
-    let e = bits_inj (record { sfits = c.before.if32.given }) b.ranges.x c.if3.true in
-    let below : k < b.args.n = omega (arith, c.before.before.if2.true, c.before.before.before.if1.false) in
-    sym (has_here eq_z b.args.x s k b.args.n (pos 0) below b.requires.0 (eq_z_yes b.args.x (get_or s k (pos 0)) (sym e)))
+    let k = c.wide-hint.result - 1 in
+    let s = c.args.s.now in
+    let e = bits_inj (record { sfits = c.t13-1.given }) c.ranges.x c.if-s-hint.true in
+    let below : k < c.args.n = omega (arith, c.if-hint-n.true, c.if-hint-eq0.false) in
+    sym (has_here eq_z c.args.x s k c.args.n (pos 0) below c.requires.0 (eq_z_yes c.args.x (get_or s k (pos 0)) (sym e)))
 
-returns-3 : tie.Need-returns-3
+returns-3 : tie.Need-returns
 returns-3 c =
-    let b = c.before.before.before.before.before.before in
-    c.has.ensures ∙ ap (λ (z : ℤ). has eq_z z (take b.args.n b.args.s.now)) (to_z-of_z b.ranges.x)
+    c.has.ensures ∙ ap (λ (z : ℤ). has eq_z z (take c.args.n c.args.s.now)) (to_z-of_z c.ranges.x)
 
 pub has_hinted_spec : {M : Type 1} → statement M
 has_hinted_spec =

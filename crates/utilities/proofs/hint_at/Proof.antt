@@ -10,7 +10,7 @@ use Rattle.utilities.proofs.hint_at.Statement.{statement}
 use Rattle.utilities.proofs.hint_at.Tie as tie
 
 returns : tie.Need-returns
-returns c = ap (λ (n : ℕ). n % hint_count) (c.complement.ensures ∙ ap (of_z w64) (to_z-of_z c.before.ranges.x))
+returns c = ap (λ (n : ℕ). n % hint_count) (c.complement.ensures ∙ ap (of_z w64) (to_z-of_z c.ranges.x))
 
 pub hint_at_spec : {M : Type 1} → statement M
 hint_at_spec = tie.close (tie.spec (λ c κs. search rules) returns)

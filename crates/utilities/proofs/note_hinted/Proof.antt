@@ -17,42 +17,37 @@ use Rattle.utilities.proofs.Hints.{hint_within, hinting_added}
 use Rattle.utilities.proofs.note_hinted.Statement.{statement}
 use Rattle.utilities.proofs.note_hinted.Tie as tie
 
-has-hinted-requires : tie.Need-has-hinted-requires
+has-hinted-requires : tie.Need-has_hinted-requires
 has-hinted-requires c κs =
-    let b = c.before.before.before.before in
-    (b.requires.0, b.requires.1, c.before.before.hint-at.ensures)
+    (c.requires.0, c.requires.1, c.hint_at-at.ensures)
 
-returns : tie.Need-returns
+returns : tie.Need-returns-then-has_hinted
 returns c =
-    let b = c.before.before.before.before.before.before in
-    (kept b.args.out.now b.args.n (to_z-of_z b.ranges.x) b.requires.0 (sym c.before.has-hinted.ensures ∙ c.if1.true), b.requires.1)
+    (kept c.args.out.now c.args.n (to_z-of_z c.ranges.x) c.requires.0 (sym c.has_hinted.ensures ∙ c.if-has_hinted.true), c.requires.1)
 
-slice-write-hints : tie.Need-slice-write-hints
+slice-write-hints : tie.Need-bounds-hints-at
 slice-write-hints c =
-    let b = c.before.before.before.before.before.before.before.before in
-    let x = to_z w64 (of_z w64 b.args.x) in
-    omega (arith, b.requires.1.size, c.before.before.before.before.before.before.hint-at.ensures, hint_within x)
+    let x = to_z w64 (of_z w64 c.args.x) in
+    omega (arith, c.requires.1.size, c.hint_at-at.ensures, hint_within x)
 
-returns-2 : tie.Need-returns-2
+returns-2 : tie.Need-returns-then-n-out
 returns-2 c =
-    let b = c.before.before.before.before.before.before.before.before in
-    let out = b.args.out.now in
-    let n = b.args.n in
-    let hints = b.args.hints.now in
-    let v = to_z w64 (of_z w64 b.args.x) in
-    let h = c.hint-of.result in
-    let missing = sym c.before.before.before.has-hinted.ensures ∙ c.before.before.if1.false in
-    let begins = added out n (to_z-of_z b.ranges.x) c.before.if2.true missing in
-    let values = sym ((added out n refl c.before.if2.true missing).start ∙ noted_new eq_z (take n out) v missing) in
-    let at = sym c.before.before.before.before.before.before.hint-at.ensures in
-    let grown = hinting_added v h c.hint-of.ensures (hint_within v) b.requires.1 in
-    (begins, subst (λ (l : List ℤ). Hinting (set hints c.before.before.before.before.before.before.hint-at.result h) l) values (subst (λ (k : ℕ). Hinting (set hints k h) (take n out ++ (v ∷ []))) at grown))
+    let out = c.args.out.now in
+    let n = c.args.n in
+    let hints = c.args.hints.now in
+    let v = to_z w64 (of_z w64 c.args.x) in
+    let h = c.hint_of.result in
+    let missing = sym c.has_hinted.ensures ∙ c.if-has_hinted.false in
+    let begins = added out n (to_z-of_z c.ranges.x) c.if-n-out.true missing in
+    let values = sym ((added out n refl c.if-n-out.true missing).start ∙ noted_new eq_z (take n out) v missing) in
+    let at = sym c.hint_at-at.ensures in
+    let grown = hinting_added v h c.hint_of.ensures (hint_within v) c.requires.1 in
+    (begins, subst (λ (l : List ℤ). Hinting (set hints c.hint_at-at.result h) l) values (subst (λ (k : ℕ). Hinting (set hints k h) (take n out ++ (v ∷ []))) at grown))
 
-returns-3 : tie.Need-returns-3
+returns-3 : tie.Need-returns
 returns-3 c =
-    let b = c.before.before.before.before.before.before.before in
-    let full : b.args.n ≡ length b.args.out.now = omega (arith, b.requires.0) in
-    (lacking b.args.out.now b.args.n (to_z-of_z b.ranges.x) full (sym c.before.before.has-hinted.ensures ∙ c.before.if1.false), b.requires.1)
+    let full : c.args.n ≡ length c.args.out.now = omega (arith, c.requires.0) in
+    (lacking c.args.out.now c.args.n (to_z-of_z c.ranges.x) full (sym c.has_hinted.ensures ∙ c.if-has_hinted.false), c.requires.1)
 
 pub note_hinted_spec : {M : Type 1} → statement M
 note_hinted_spec =

@@ -14,15 +14,14 @@ use Rattle.walks.proofs.Ending.{reaches_ended, lent_ended}
 use Rattle.walks.proofs.walk_steps.Statement.{statement}
 use Rattle.walks.proofs.walk_steps.Tie as tie
 
-take-steps-requires : tie.Need-take-steps-requires
+take-steps-requires : tie.Need-take_steps-ranges-requires
 take-steps-requires c κs =
-    let start = c.before.before.before.before.before.before.before.before.before.before in
-    let r = start.pre in
-    let f = planned start.args.plan.now r.0.formed in
+    let r = c.requires in
+    let f = planned c.args.plan.now r.0.formed in
     ((r.0, omega arith, omega arith), (search rules, λ e. absurd (subst T (sym e) tt)))
 
 -- what the steps up to the first that may use the category stores come to
-module _ (c : tie.After-take-steps) where
+module _ (c : tie.After-take_steps-ranges) where
   abbrev start : tie.Start
   start = c.before.before.before.before.before.before.before.before.before.before.before
 
@@ -30,29 +29,29 @@ module _ (c : tie.After-take-steps) where
   p = start.args.plan.now
 
   abbrev left : List ℕ
-  left = c.take_steps.last.1.1.1.1.0
+  left = c.take_steps-ranges.last.1.1.1.1.0
 
-returns : tie.Need-returns
+returns : tie.Need-returns-in_default
 returns c =
     let done = c.before.before.before.before.before.before.before.before.before.before in
-    (done.take_steps.ensures.0, reaches_ended (p done) false done.take_steps.result c.match.keys2 done.take_steps.ensures.1)
+    (c.take_steps-ranges.ensures.0, reaches_ended (p done) false c.take_steps-ranges.result c.in_default.in_default-own.keys2 c.take_steps-ranges.ensures.1)
 
-take-steps-requires-2 : tie.Need-take-steps-requires-2
+take-steps-requires-2 : tie.Need-take_steps-requires
 take-steps-requires-2 c κs =
     let told = c.before.before.before.before.before.before.before.before.before in
     let done = told.before.before.before.before.before.before.before.before.before.before.before in
-    let r = (start done).pre in
-    let n = subst (Reaches false (p done)) told.ranges.given.1 done.take_steps.ensures.1 in
-    ((record { formed = r.0.formed; room = omega (arith, r.0.room, done.take_steps.kept) }, n.1, n.2), (search rules, λ e. record { lists = record { stores = search rules; arrays = search rules; sheet_room = search rules }; texts = record { stores = search rules; sheet_room = search rules } }))
+    let r = (start done).requires in
+    let n = subst (Reaches false (p done)) c.ranges.given.1 c.take_steps-ranges.ensures.1 in
+    ((record { formed = r.0.formed; room = omega (arith, r.0.room, c.take_steps-ranges.kept) }, n.1, n.2), (search rules, λ e. record { lists = record { stores = search rules; arrays = search rules; sheet_room = search rules }; texts = record { stores = search rules; sheet_room = search rules } }))
 
-returns-2 : tie.Need-returns-2
+returns-2 : tie.Need-returns
 returns-2 c =
     let done = c.before.before.before.before.before.before.before.before.before in
     let told = done.before.before.before.before.before.before.before.before.before.before in
     let first = told.before.before.before.before.before.before.before.before.before.before.before in
     let nodes = (start first).args.nodes in (
-      done.take-steps2.ensures.0 ∙ sym (ap (λ (w : Walked). walked nodes (p first) w (left first)) told.ranges.given.1) ∙ first.take_steps.ensures.0,
-      lent_ended (p first) done.take-steps2.result done.take-steps2.ensures.1,
+      c.take_steps.ensures.0 ∙ sym (ap (λ (w : Walked). walked nodes (p first) w (left first)) c.ranges.given.1) ∙ c.take_steps-ranges.ensures.0,
+      lent_ended (p first) c.take_steps.result c.take_steps.ensures.1,
     )
 
 pub walk_steps_spec : {M : Type 1} → statement M

@@ -5,17 +5,13 @@ use Rattle.ends.specs.Ends.{corners}
 use Rattle.whole_corners.proofs.corners.Statement.{statement}
 use Rattle.whole_corners.proofs.corners.Tie as tie
 
-returns-5 : tie.Need-returns-5
+returns-5 : tie.Need-returns
 unfolding corners
 returns-5 c =
-    let p = c.before.before.before.before.before.before.before.before.before.before.before.before.p.given in
-    let q = c.before.before.before.before.before.before.before.before.before.q.given in
-    let r = c.before.before.before.before.before.before.r.given in
-    let s = c.before.before.before.s.given in
-    let l = c.before.least in
+    let l = c.least in
     let u = c.greatest in
-    rw (p.1, q.1, r.1, s.1, reads l.result (search rules), reads u.result (search rules), l.ensures, u.ensures)
-    (rw (reads p.0.0 (search rules), reads q.0.0 (search rules), reads r.0.0 (search rules), reads s.0.0 (search rules)))
+    rw (c.in-Fits.is, c.in-Fits-q.is, c.in-Fits-r.is, c.in-Fits-s.is, reads l.result (search rules), reads u.result (search rules), l.ensures, u.ensures)
+    (rw (reads c.in-Fits.a (search rules), reads c.in-Fits-q.b (search rules), reads c.in-Fits-r.c (search rules), reads c.in-Fits-s.d (search rules)))
 
 pub corners_spec : {M : Type 1} → statement M
 unfolding corners
@@ -24,16 +20,16 @@ corners_spec =
     (tie.spec
     (λ c. search rules)
     (λ c. search rules)
-    (λ c. rw c.enum_told.given.1)
+    (λ c. rw c.in_default.is)
     (λ c. search rules)
     (λ c. search rules)
-    (λ c. rw (c.before.before.before.p.given.1, c.enum-told2.given.1))
+    (λ c. rw (c.in-Fits.is, c.in_default-q.is))
     (λ c. search rules)
     (λ c. search rules)
-    (λ c. rw (c.before.before.before.before.before.before.p.given.1, c.before.before.before.q.given.1, c.enum-told3.given.1))
+    (λ c. rw (c.in-Fits.is, c.in-Fits-q.is, c.in_default-r.is))
     (λ c. search rules)
     (λ c. search rules)
-    (λ c. rw (c.before.before.before.before.before.before.before.before.before.p.given.1, c.before.before.before.before.before.before.q.given.1, c.before.before.before.r.given.1, c.enum-told4.given.1))
+    (λ c. rw (c.in-Fits.is, c.in-Fits-q.is, c.in-Fits-r.is, c.in_default-s.is))
     (λ c κs. search rules)
     (λ c κs. search rules)
     returns-5)

@@ -9,49 +9,43 @@ use Rattle.ends.specs.Ends.{div_by}
 use Rattle.whole_corners.proofs.div_by.Statement.{statement}
 use Rattle.whole_corners.proofs.div_by.Tie as tie
 
-returns : tie.Need-returns
+returns : tie.Need-returns-in_default-upper
 unfolding div_by
 returns c =
-    let v = c.before.before.args in
-    rw (not_whole v.lower c.before.match.keys2, not_whole v.upper c.match2.keys2)
+    let v = c.args in
+    rw (not_whole v.lower c.in_default.in_default-own.keys2, not_whole v.upper c.in_default-upper.in_default-upper-own.keys2)
 
-returns-2 : tie.Need-returns-2
+returns-2 : tie.Need-returns-then-f-lt0
 unfolding div_by
 returns-2 c =
-    let u = c.before.before.before.upper.given in
-    let fu : SFits w64 u.0.0 = search rules in
-    rw (not_whole c.before.before.before.before.before.before.args.lower c.before.before.before.before.before.match.keys2, u.1, below_zero fu c.before.if1.true) c.unknown.ensures
+    let fu : SFits w64 c.in-Whole-upper.f = search rules in
+    rw (not_whole c.args.lower c.in_default.in_default-own.keys2, c.in-Whole-upper.is, below_zero fu c.if-f-lt0.true) c.unknown.ensures
 
-returns-3 : tie.Need-returns-3
+returns-3 : tie.Need-returns-in_default
 unfolding div_by
 returns-3 c =
-    let u = c.before.before.upper.given in
-    let fu : SFits w64 u.0.0 = search rules in
-    rw (not_whole c.before.before.before.before.before.args.lower c.before.before.before.before.match.keys2, u.1, below_zero fu c.if1.false)
+    let fu : SFits w64 c.in-Whole-upper.f = search rules in
+    rw (not_whole c.args.lower c.in_default.in_default-own.keys2, c.in-Whole-upper.is, below_zero fu c.if-f-lt0.false)
 
-returns-4 : tie.Need-returns-4
+returns-4 : tie.Need-returns-then-d-gt0
 unfolding div_by
 returns-4 c =
-    let l = c.before.before.before.before.lower.given in
-    let fl : SFits w64 l.0.0 = search rules in
-    rw (l.1, not_whole c.before.before.before.before.before.before.args.upper c.before.before.match3.keys2, above_zero fl c.before.if2.true) c.unknown2.ensures
+    let fl : SFits w64 c.in-Whole.d = search rules in
+    rw (c.in-Whole.is, not_whole c.args.upper c.in_default-upper-2.in_default-upper-2-own.keys2, above_zero fl c.if-d-gt0.true) c.unknown-then-d-gt0.ensures
 
-returns-5 : tie.Need-returns-5
+returns-5 : tie.Need-returns-in_default-upper-2
 unfolding div_by
 returns-5 c =
-    let l = c.before.before.before.lower.given in
-    let fl : SFits w64 l.0.0 = search rules in
-    rw (l.1, not_whole c.before.before.before.before.before.args.upper c.before.match3.keys2, above_zero fl c.if2.false)
+    let fl : SFits w64 c.in-Whole.d = search rules in
+    rw (c.in-Whole.is, not_whole c.args.upper c.in_default-upper-2.in_default-upper-2-own.keys2, above_zero fl c.if-d-gt0.false)
 
-returns-6 : tie.Need-returns-6
+returns-6 : tie.Need-returns
 unfolding div_by
 returns-6 c =
-    let f = c.before.before.before.before.before.before.before.ranges in
-    let l = c.before.before.before.before.before.lower.given in
-    let u = c.before.before.upper2.given in
-    let fl : SFits w64 l.0.0 = search rules in
-    let fu : SFits w64 u.0.0 = search rules in
-    rw (l.1, u.1) (rw (to_z-of_z f.a, to_z-of_z f.c, to_z-of_z fl, to_z-of_z fu) at c.optimize-quotient.ensures)
+    let f = c.ranges in
+    let fl : SFits w64 c.in-Whole.d = search rules in
+    let fu : SFits w64 c.in-Whole-upper-2.f = search rules in
+    rw (c.in-Whole.is, c.in-Whole-upper-2.is) (rw (to_z-of_z f.a, to_z-of_z f.c, to_z-of_z fl, to_z-of_z fu) at c.optimize_quotient.ensures)
 
 pub div_by_spec : {M : Type 1} → statement M
 div_by_spec =

@@ -8,9 +8,9 @@ use Rattle.whole_corners.proofs.div_corners.Tie as tie
 returns : tie.Need-returns
 unfolding div_corners
 returns c =
-    let f = c.before.before.before.before.before.ranges in
+    let f = c.ranges in
     rw (to_z-of_z f.a, to_z-of_z f.c, to_z-of_z f.d, to_z-of_z f.f)
-    at (rw (c.before.before.before.before.checked-div.ensures, c.before.before.before.checked-div2.ensures, c.before.before.checked-div3.ensures, c.before.checked-div4.ensures) at c.corners.ensures)
+    at (rw (c.checked_div.ensures, c.checked_div-2.ensures, c.checked_div-3.ensures, c.checked_div-4.ensures) at c.corners.ensures)
 
 pub div_corners_spec : {M : Type 1} → statement M
 div_corners_spec =

@@ -6,11 +6,10 @@ use Rattle.ends.proofs.Rules.{both_on}
 use Rattle.whole_corners.proofs.div_ends.Statement.{statement}
 use Rattle.whole_corners.proofs.div_ends.Tie as tie
 
-returns-2 : tie.Need-returns-2
+returns-2 : tie.Need-returns
 unfolding div_ends
 returns-2 c =
-    let p = c.before.before.a.given in
-    rw (both_on, ← c.before.before.before.before.whole_pair.ensures, p.1) (rw (reads p.0.0 (search rules), reads p.0.1.0 (search rules)) at c.div-by.ensures)
+    rw (both_on, ← c.whole_pair.ensures, c.in-Both.is) (rw (reads c.in-Both.a (search rules), reads c.in-Both.c (search rules)) at c.div_by.ensures)
 
 pub div_ends_spec : {M : Type 1} → statement M
 unfolding div_ends
@@ -21,6 +20,6 @@ div_ends_spec =
     (λ c. search rules)
     (λ c. search rules)
     (λ c κs. search rules)
-    (λ c. rw (both_on, ← c.before.before.before.whole_pair.ensures, c.before.enum_told.given.1) c.unknown.ensures)
+    (λ c. rw (both_on, ← c.whole_pair.ensures, c.in_default.is) c.unknown.ensures)
     (λ c κs. search rules)
     returns-2)

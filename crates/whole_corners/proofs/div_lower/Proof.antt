@@ -6,31 +6,29 @@ use Rattle.ends.specs.Ends.{div_lower}
 use Rattle.whole_corners.proofs.div_lower.Statement.{statement}
 use Rattle.whole_corners.proofs.div_lower.Tie as tie
 
-returns : tie.Need-returns
+returns : tie.Need-returns-in_default
 unfolding div_lower
 returns c =
-    let f = c.before.before.before.ranges in
-    let first = rw (to_z-of_z f.a, to_z-of_z f.d) at c.before.before.checked-div.ensures in
-    rw (← first, c.enum_told.given.1)
+    let f = c.ranges in
+    let first = rw (to_z-of_z f.a, to_z-of_z f.d) at c.checked_div.ensures in
+    rw (← first, c.in_default.is)
 
-returns-2 : tie.Need-returns-2
+returns-2 : tie.Need-returns-in_default-checked_div
 unfolding div_lower
 returns-2 c =
-    let f = c.before.before.before.before.before.before.before.ranges in
-    let first = rw (to_z-of_z f.a, to_z-of_z f.d) at c.before.before.before.before.before.before.checked-div.ensures in
-    let second = rw (to_z-of_z f.c, to_z-of_z f.d) at c.before.before.checked-div2.ensures in
-    rw (← first, c.before.before.before.before.p.given.1, ← second, c.enum-told2.given.1)
+    let f = c.ranges in
+    let first = rw (to_z-of_z f.a, to_z-of_z f.d) at c.checked_div.ensures in
+    let second = rw (to_z-of_z f.c, to_z-of_z f.d) at c.checked_div-2.ensures in
+    rw (← first, c.in-Fits.is, ← second, c.in_default-checked_div.is)
 
-returns-3 : tie.Need-returns-3
+returns-3 : tie.Need-returns
 unfolding div_lower
 returns-3 c =
-    let f = c.before.before.before.before.before.before.before.before.before.ranges in
-    let first = rw (to_z-of_z f.a, to_z-of_z f.d) at c.before.before.before.before.before.before.before.before.checked-div.ensures in
-    let second = rw (to_z-of_z f.c, to_z-of_z f.d) at c.before.before.before.before.checked-div2.ensures in
-    let p = c.before.before.before.before.before.before.p.given in
-    let q = c.before.before.q.given in
+    let f = c.ranges in
+    let first = rw (to_z-of_z f.a, to_z-of_z f.d) at c.checked_div.ensures in
+    let second = rw (to_z-of_z f.c, to_z-of_z f.d) at c.checked_div-2.ensures in
     let r = c.lesser in
-    rw (← first, p.1, ← second, q.1, reads r.result (search rules), r.ensures, reads p.0.0 (search rules), reads q.0.0 (search rules))
+    rw (← first, c.in-Fits.is, ← second, c.in-Fits-checked_div.is, reads r.result (search rules), r.ensures, reads c.in-Fits.p (search rules), reads c.in-Fits-checked_div.q (search rules))
 
 pub div_lower_spec : {M : Type 1} → statement M
 div_lower_spec =

@@ -6,19 +6,17 @@ use Rattle.ends.proofs.Rules.{both_on}
 use Rattle.whole_corners.proofs.mul_ends.Statement.{statement}
 use Rattle.whole_corners.proofs.mul_ends.Tie as tie
 
-returns-2 : tie.Need-returns-2
+returns-2 : tie.Need-returns-in_default-whole_pair
 unfolding mul_ends
 returns-2 c =
-    rw (both_on, ← c.before.before.before.before.before.before.before.whole_pair.ensures, c.before.before.before.before.before.a.given.1)
-    (rw (both_on, ← c.before.before.before.whole-pair2.ensures, c.before.enum-told2.given.1) c.unknown2.ensures)
+    rw (both_on, ← c.whole_pair.ensures, c.in-Both.is)
+    (rw (both_on, ← c.whole_pair-2.ensures, c.in_default-whole_pair.is) c.unknown-in_default-whole_pair.ensures)
 
-returns-3 : tie.Need-returns-3
+returns-3 : tie.Need-returns
 unfolding mul_ends
 returns-3 c =
-    let p = c.before.before.before.before.before.before.a.given in
-    let q = c.before.before.d.given in
-    rw (both_on, ← c.before.before.before.before.before.before.before.before.whole_pair.ensures, p.1)
-    (rw (both_on, ← c.before.before.before.before.whole-pair2.ensures, q.1) (rw (reads p.0.0 (search rules), reads p.0.1.0 (search rules), reads q.0.0 (search rules), reads q.0.1.0 (search rules)) at c.optimize-product.ensures))
+    rw (both_on, ← c.whole_pair.ensures, c.in-Both.is)
+    (rw (both_on, ← c.whole_pair-2.ensures, c.in-Both-whole_pair.is) (rw (reads c.in-Both.a (search rules), reads c.in-Both.c (search rules), reads c.in-Both-whole_pair.d (search rules), reads c.in-Both-whole_pair.f (search rules)) at c.optimize_product.ensures))
 
 pub mul_ends_spec : {M : Type 1} → statement M
 unfolding mul_ends
@@ -29,7 +27,7 @@ mul_ends_spec =
     (λ c. search rules)
     (λ c. search rules)
     (λ c κs. search rules)
-    (λ c. rw (both_on, ← c.before.before.before.whole_pair.ensures, c.before.enum_told.given.1) c.unknown.ensures)
+    (λ c. rw (both_on, ← c.whole_pair.ensures, c.in_default.is) c.unknown.ensures)
     (λ c κs. search rules)
     (λ c. search rules)
     (λ c. search rules)

@@ -8,9 +8,9 @@ use Rattle.whole_corners.proofs.optimize_product.Tie as tie
 returns : tie.Need-returns
 unfolding mul_corners
 returns c =
-    let f = c.before.before.before.before.before.ranges in
+    let f = c.ranges in
     rw (to_z-of_z f.a, to_z-of_z f.c, to_z-of_z f.d, to_z-of_z f.f)
-    at (rw (c.before.before.before.before.checked-mul.ensures, c.before.before.before.checked-mul2.ensures, c.before.before.checked-mul3.ensures, c.before.checked-mul4.ensures) at c.corners.ensures)
+    at (rw (c.checked_mul.ensures, c.checked_mul-2.ensures, c.checked_mul-3.ensures, c.checked_mul-4.ensures) at c.corners.ensures)
 
 pub optimize_product_spec : {M : Type 1} → statement M
 optimize_product_spec =

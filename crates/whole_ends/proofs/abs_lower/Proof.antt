@@ -6,17 +6,17 @@ use Rattle.ends.specs.Ends.{abs_lower}
 use Rattle.whole_ends.proofs.abs_lower.Statement.{statement}
 use Rattle.whole_ends.proofs.abs_lower.Tie as tie
 
-returns : tie.Need-returns
+returns : tie.Need-returns-then-a-gt0
 unfolding abs_lower
 returns c =
-    let f = c.before.ranges in
-    rw (above_zero f.a c.if1.true, to_z-of_z f.a)
+    let f = c.ranges in
+    rw (above_zero f.a c.if-a-gt0.true, to_z-of_z f.a)
 
-returns-2 : tie.Need-returns-2
+returns-2 : tie.Need-returns-else-a-gt0
 unfolding abs_lower
 returns-2 c =
-    let f = c.before.before.ranges in
-    rw (above_zero f.a c.before.if1.false, c.checked-neg.ensures, to_z-of_z f.c)
+    let f = c.ranges in
+    rw (above_zero f.a c.if-a-gt0.false, c.checked_neg.ensures, to_z-of_z f.c)
 
 pub abs_lower_spec : {M : Type 1} → statement M
 abs_lower_spec =

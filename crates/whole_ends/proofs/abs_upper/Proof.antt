@@ -8,30 +8,28 @@ use Rattle.ends.specs.Ends.{abs_upper}
 use Rattle.whole_ends.proofs.abs_upper.Statement.{statement}
 use Rattle.whole_ends.proofs.abs_upper.Tie as tie
 
-returns : tie.Need-returns
+returns : tie.Need-returns-in_default
 unfolding abs_upper
 returns c =
-    let f = c.before.before.before.ranges in
-    let sum = rw (to_z-of_z f.a, to_z-of_z f.c) at c.before.before.checked-add.ensures in
-    rw (← sum, c.enum_told.given.1)
+    let f = c.ranges in
+    let sum = rw (to_z-of_z f.a, to_z-of_z f.c) at c.checked_add.ensures in
+    rw (← sum, c.in_default.is)
 
-returns-2 : tie.Need-returns-2
+returns-2 : tie.Need-returns-then-s-gt0
 unfolding abs_upper
 returns-2 c =
-    let f = c.before.before.before.before.before.ranges in
-    let sum = rw (to_z-of_z f.a, to_z-of_z f.c) at c.before.before.before.before.checked-add.ensures in
-    let s = c.before.before.s.given in
-    let fs : SFits w64 s.0.0 = search rules in
-    rw (← sum, s.1, above_zero fs c.if1.true, to_z-of_z f.c)
+    let f = c.ranges in
+    let sum = rw (to_z-of_z f.a, to_z-of_z f.c) at c.checked_add.ensures in
+    let fs : SFits w64 c.in-Fits.s = search rules in
+    rw (← sum, c.in-Fits.is, above_zero fs c.if-s-gt0.true, to_z-of_z f.c)
 
-returns-3 : tie.Need-returns-3
+returns-3 : tie.Need-returns-else-s-gt0
 unfolding abs_upper
 returns-3 c =
-    let f = c.before.before.before.before.before.before.ranges in
-    let sum = rw (to_z-of_z f.a, to_z-of_z f.c) at c.before.before.before.before.before.checked-add.ensures in
-    let s = c.before.before.before.s.given in
-    let fs : SFits w64 s.0.0 = search rules in
-    rw (← sum, s.1, above_zero fs c.before.if1.false, c.checked-neg.ensures, to_z-of_z f.a)
+    let f = c.ranges in
+    let sum = rw (to_z-of_z f.a, to_z-of_z f.c) at c.checked_add.ensures in
+    let fs : SFits w64 c.in-Fits.s = search rules in
+    rw (← sum, c.in-Fits.is, above_zero fs c.if-s-gt0.false, c.checked_neg.ensures, to_z-of_z f.a)
 
 pub abs_upper_spec : {M : Type 1} → statement M
 abs_upper_spec =

@@ -4,10 +4,9 @@ use Rattle.numbers.proofs.Bits.{reads}
 use Rattle.whole_ends.proofs.end_of.Statement.{statement}
 use Rattle.whole_ends.proofs.end_of.Tie as tie
 
-returns-2 : tie.Need-returns-2
+returns-2 : tie.Need-returns
 returns-2 c =
-    let z = c.before.r.given in
-    rw (z.1, reads z.0.0 (search rules))
+    rw (c.in-Fits.is, reads c.in-Fits.z (search rules))
 
 pub end_of_spec : {M : Type 1} → statement M
 end_of_spec =

@@ -6,11 +6,10 @@ use Rattle.ends.specs.Ends.{from_one}
 use Rattle.whole_ends.proofs.last_end.Statement.{statement}
 use Rattle.whole_ends.proofs.last_end.Tie as tie
 
-returns-2 : tie.Need-returns-2
+returns-2 : tie.Need-returns
 unfolding from_one
 returns-2 c =
-    let x = c.before.before.before.x.given in
-    rw x.1 (rw (c.before.checked-sub.ensures, reads x.0.0 (search rules)) at c.end_of_lem.ensures)
+    rw c.in-Whole.is (rw (c.checked_sub.ensures, reads c.in-Whole.a (search rules)) at c.end_of.ensures)
 
 pub last_end_spec : {M : Type 1} → statement M
 unfolding from_one
@@ -18,7 +17,7 @@ last_end_spec =
     tie.close
     (tie.spec
     (λ c. search rules)
-    (λ c. rw (not_whole c.before.args.x c.match.keys2))
+    (λ c. rw (not_whole c.args.x c.in_default.in_default-own.keys2))
     (λ c κs. search rules)
     (λ c κs. search rules)
     returns-2)

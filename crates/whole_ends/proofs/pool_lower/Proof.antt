@@ -6,13 +6,11 @@ use Rattle.ends.specs.Ends.{from_two}
 use Rattle.whole_ends.proofs.pool_lower.Statement.{statement}
 use Rattle.whole_ends.proofs.pool_lower.Tie as tie
 
-returns-3 : tie.Need-returns-3
+returns-3 : tie.Need-returns
 unfolding from_two
 returns-3 c =
-    let x = c.before.before.before.before.before.x.given in
-    let y = c.before.before.y.given in
     let r = c.lesser in
-    rw (x.1, y.1, reads r.result (search rules), r.ensures) (rw (reads x.0.0 (search rules), reads y.0.0 (search rules)))
+    rw (c.in-Whole.is, c.in-Whole-y.is, reads r.result (search rules), r.ensures) (rw (reads c.in-Whole.a (search rules), reads c.in-Whole-y.d (search rules)))
 
 pub pool_lower_spec : {M : Type 1} → statement M
 unfolding from_two
@@ -20,8 +18,8 @@ pool_lower_spec =
     tie.close
     (tie.spec
     (λ c. search rules)
-    (λ c. rw (not_whole c.before.args.x c.match.keys2))
+    (λ c. rw (not_whole c.args.x c.in_default.in_default-own.keys2))
     (λ c. search rules)
-    (λ c. rw (c.before.before.x.given.1, not_whole c.before.before.before.before.args.y c.match2.keys2))
+    (λ c. rw (c.in-Whole.is, not_whole c.args.y c.in_default-y.in_default-y-own.keys2))
     (λ c κs. search rules)
     returns-3)

@@ -8,13 +8,13 @@ use native.Mathlib.Omega.{arith}
 use Rattle.words.proofs.magnitude.Statement.{statement}
 use Rattle.words.proofs.magnitude.Tie as tie
 
-returns : tie.Need-returns
+returns : tie.Need-returns-then-v-lt9223372036854775808
 unfolding magnitude_of
-returns c = rw (lt-ltb c.before.args.v (2 ^ 63) c.if1.true)
+returns c = rw (lt-ltb c.args.v (2 ^ 63) c.if-v-lt9223372036854775808.true)
 
-returns-2 : tie.Need-returns-2
+returns-2 : tie.Need-returns-else-v-lt9223372036854775808
 unfolding magnitude_of
-returns-2 c = rw (le-ltb c.before.args.v (2 ^ 63) c.if1.false) (omega arith)
+returns-2 c = rw (le-ltb c.args.v (2 ^ 63) c.if-v-lt9223372036854775808.false) (omega arith)
 
 pub magnitude_spec : {M : Type 1} → statement M
 magnitude_spec = tie.close (tie.spec (λ c. search rules) returns returns-2)

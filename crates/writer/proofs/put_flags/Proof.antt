@@ -1,6 +1,6 @@
 -- `writer::put_flags` meets its contract: six appends of a byte. Assumes nothing.
 use borrow.Author.Rules.{rules}
-use Rattle.bytes.proofs.Appends.{◌then◌, same_bytes}
+use Rattle.octets.proofs.Appends.{◌then◌, same_bytes}
 use Rattle.writer.proofs.put_flags.Statement.{statement}
 use Rattle.writer.proofs.put_flags.Tie as tie
 
@@ -11,10 +11,9 @@ returns c =
     let fourth = fifth.before.before.before.before.before in
     let third = fourth.before.before.before.before.before in
     let second = third.before.before.before.before.before in
-    let first = second.before.before.before.before in
     same_bytes
-    (first.put-u8.ensures then second.put-u82.ensures then third.put-u83.ensures then fourth.put-u84.ensures then fifth.put-u85.ensures then sixth.put-u86.ensures)
-    (rw (third.before.flag-byte.ensures, fourth.before.flag-byte2.ensures, fifth.before.flag-byte3.ensures, sixth.before.flag-byte4.ensures))
+    (c.put_u8-end.ensures then c.put_u8-end-2.ensures then c.put_u8-end-3.ensures then c.put_u8-end-4.ensures then c.put_u8-end-5.ensures then c.put_u8.ensures)
+    (rw (c.flag_byte.ensures, c.flag_byte-2.ensures, c.flag_byte-3.ensures, c.flag_byte-4.ensures))
 
 pub put_flags_spec : {M : Type 1} → statement M
 put_flags_spec =

@@ -3,7 +3,7 @@ use mir.Facts.{to_z-of_z}
 use mir.Syntax.{w64}
 use native.Mathlib.Omega.{arith}
 use borrow.Author.Rules.{rules}
-use Rattle.bytes.proofs.Appends.{◌then◌, same_bytes}
+use Rattle.octets.proofs.Appends.{◌then◌, same_bytes}
 use Rattle.base.proofs.Forms.{laid}
 use Rattle.writer.proofs.Copies.{same_size}
 use Rattle.writer.proofs.put_front.Statement.{statement}
@@ -16,20 +16,19 @@ returns c =
     let values = last.before.before.before.before in
     let marks = values.before.before.before.before in
     let sizes = marks.before.before.before.before in
-    let start = sizes.before.before.before in
-    let l = laid start.args.f in
-    let back = to_z-of_z {w = w64} {z = start.args.node} start.ranges.node in
-    let put = sizes.put-sizes.ensures then marks.put-marks.ensures then values.put-values.ensures then last.put-i64.ensures then gap.put-gap.ensures in
+    let l = laid c.args.f in
+    let back = to_z-of_z {w = w64} {z = c.args.node} c.ranges.node in
+    let put = c.put_sizes-end.ensures then c.put_marks-end.ensures then c.put_values-end.ensures then c.put_i64-end.ensures then c.put_gap.ensures in
     same_bytes (same_size put (omega arith)) (rw back)
 
 pub put_front_spec : {M : Type 1} → statement M
 put_front_spec =
     tie.close
     (tie.spec
-    (λ c κs. let l = laid c.before.before.args.f in search rules)
-    (λ c κs. let l = laid c.before.before.before.before.before.before.args.f in search rules)
-    (λ c κs. let l = laid c.before.before.before.before.before.before.before.before.before.before.args.f in search rules)
-    (λ c κs. let l = laid c.before.before.before.before.before.before.before.before.before.before.before.before.before.before.args.f in search rules)
-    (λ c κs. let l = laid c.before.before.before.before.before.before.before.before.before.before.before.before.before.before.before.before.before.before.args.f in search rules)
+    (λ c κs. let l = laid c.args.f in search rules)
+    (λ c κs. let l = laid c.args.f in search rules)
+    (λ c κs. let l = laid c.args.f in search rules)
+    (λ c κs. let l = laid c.args.f in search rules)
+    (λ c κs. let l = laid c.args.f in search rules)
     (λ c. search rules)
     returns)

@@ -1,7 +1,7 @@
 -- `writer::put_marks` meets its contract: the appends of its parts; zeros are the bytes of a zero. Assumes nothing.
 use borrow.Author.Rules.{rules}
-use Rattle.bytes.proofs.Appends.{◌then◌}
-use Rattle.bytes.specs.Le.{le_bytes}
+use Rattle.octets.proofs.Appends.{◌then◌}
+use Rattle.octets.specs.Le.{le_bytes}
 use Rattle.base.specs.Encode.{mark_bytes}
 use Rattle.writer.proofs.put_marks.Statement.{statement}
 use Rattle.writer.proofs.put_marks.Tie as tie
@@ -15,9 +15,8 @@ returns c =
     let fourth = fifth.before.before.before.before in
     let third = fourth.before.before.before.before in
     let second = third.before.before.before.before in
-    let first = second.before.before.before.before in
-    let area = fifth.put-u8.ensures then sixth.put-u16.ensures in
-    first.put-flags.ensures then second.put-u32.ensures then third.put-u322.ensures then fourth.put-presence.ensures then area then seventh.put-u323.ensures
+    let area = c.put_u8-end.ensures then c.put_u16-end.ensures in
+    c.put_flags-end.ensures then c.put_u32-end.ensures then c.put_u32-end-2.ensures then c.put_presence-end.ensures then area then c.put_u32.ensures
 
 pub put_marks_spec : {M : Type 1} → statement M
 put_marks_spec =

@@ -1,6 +1,6 @@
 -- `writer::put_presence` meets its contract: five appends of a byte. Assumes nothing.
 use borrow.Author.Rules.{rules}
-use Rattle.bytes.proofs.Appends.{◌then◌, same_bytes}
+use Rattle.octets.proofs.Appends.{◌then◌, same_bytes}
 use Rattle.writer.proofs.put_presence.Statement.{statement}
 use Rattle.writer.proofs.put_presence.Tie as tie
 
@@ -10,10 +10,9 @@ returns c =
     let fourth = fifth.before.before.before.before.before in
     let third = fourth.before.before.before.before.before in
     let second = third.before.before.before.before.before in
-    let first = second.before.before.before.before.before in
     same_bytes
-    (first.put-u8.ensures then second.put-u82.ensures then third.put-u83.ensures then fourth.put-u84.ensures then fifth.put-u85.ensures)
-    (rw (first.before.signed-mark.ensures, second.before.plain-mark.ensures, third.before.signed-mark2.ensures, fourth.before.signed-mark3.ensures, fifth.before.plain-mark2.ensures))
+    (c.put_u8-end.ensures then c.put_u8-end-2.ensures then c.put_u8-end-3.ensures then c.put_u8-end-4.ensures then c.put_u8.ensures)
+    (rw (c.signed_mark.ensures, c.plain_mark.ensures, c.signed_mark-2.ensures, c.signed_mark-3.ensures, c.plain_mark-2.ensures))
 
 pub put_presence_spec : {M : Type 1} → statement M
 put_presence_spec =

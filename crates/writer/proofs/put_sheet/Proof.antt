@@ -3,7 +3,7 @@ use native.Mathlib.Omega.{arith}
 use mir.Syntax.{w64}
 use mir.Facts.{to_z-of_z}
 use borrow.Author.Rules.{rules}
-use Rattle.bytes.proofs.Appends.{◌then◌, same_bytes}
+use Rattle.octets.proofs.Appends.{◌then◌, same_bytes}
 use Rattle.base.specs.Code.{head_fields}
 use Rattle.base.specs.Decode.{groups_in}
 use Rattle.base.specs.Form.{form_of}
@@ -14,16 +14,14 @@ use Rattle.writer.proofs.Sheets.{sheet_parts}
 use Rattle.writer.proofs.put_sheet.Statement.{statement}
 use Rattle.writer.proofs.put_sheet.Tie as tie
 
-put-front-requires : tie.Need-put-front-requires
+put-front-requires : tie.Need-put_front-end-requires
 put-front-requires c κs =
-    let start = c.before.before.before.before.before.before.before in
-    let z = passed (form_of start.args.f) start.args.source.now start.requires.sized in
+    let z = passed (form_of c.args.f) c.args.source.now c.requires.sized in
     search rules
 
-put-bytes-requires : tie.Need-put-bytes-requires
+put-bytes-requires : tie.Need-put_bytes-end-requires
 put-bytes-requires c κs =
-    let start = c.before.before.before.before.before.before.before.before.before.before.before in
-    let h = (groups_fit (passed (form_of start.args.f) start.args.source.now start.requires.sized)).room in
+    let h = (groups_fit (passed (form_of c.args.f) c.args.source.now c.requires.sized)).room in
     search rules
 
 returns : tie.Need-returns
@@ -34,15 +32,14 @@ returns c =
     let front = area.before.before.before.before in
     let places = front.before.before in
     let read = places.before in
-    let start = read.before.before.before.before.before in
-    let a = start.args in
+    let a = c.args in
     let F = form_of a.f in
     let source = a.source.now in
-    let count = read.sizes-at.ensures.groups in
-    let arrays = places.arrays-at.ensures.0 in
-    let copied = groups_copied F source (λ i. (read.before.shared-slice-known3.given i).fits) (groups_fit (passed F source start.requires.sized)).room in
-    let back = to_z-of_z {w = w64} {z = a.node} start.ranges.node in
-    let put = front.put_front.ensures then area.put-bytes.ensures then first.put-bytes2.ensures then last.put-bytes3.ensures in
+    let count = c.sizes_at-sizes.ensures.groups in
+    let arrays = c.arrays_at-arrays.ensures.0 in
+    let copied = groups_copied F source (λ i. (c.shared_slice_known-3-1.given i).fits) (groups_fit (passed F source c.requires.sized)).room in
+    let back = to_z-of_z {w = w64} {z = a.node} c.ranges.node in
+    let put = c.put_front-end.ensures then c.put_bytes-end.ensures then c.put_bytes-end-2.ensures then c.put_bytes.ensures in
     same_bytes (same_size put (omega arith))
     (rw (back, count, arrays)
     (sheet_parts F (head_fields a.head) a.node (groups_in F source) a.p a.first.now a.second.now (groups_length F source) copied))

@@ -1,7 +1,7 @@
 -- `writer::put_sizes` meets its contract: three appends of one width; a count within its limit fits that width. Assumes nothing.
 use native.Mathlib.Omega.{arith}
 use borrow.Author.Rules.{rules}
-use Rattle.bytes.proofs.Appends.{◌then◌}
+use Rattle.octets.proofs.Appends.{◌then◌}
 use Rattle.base.proofs.Forms.{laid}
 use Rattle.writer.proofs.Copies.{same_size}
 use Rattle.writer.proofs.put_sizes.Statement.{statement}
@@ -11,15 +11,14 @@ returns : tie.Need-returns
 returns c =
     let third = c.before.before in
     let second = third.before.before.before.before in
-    let first = second.before.before.before.before in
-    same_size (first.put-size.ensures then second.put-size2.ensures then third.put-size3.ensures) (omega arith)
+    same_size (c.put_size-end.ensures then c.put_size-end-2.ensures then c.put_size.ensures) (omega arith)
 
 pub put_sizes_spec : {M : Type 1} → statement M
 put_sizes_spec =
     tie.close
     (tie.spec
-    (λ c κs. let l = laid c.before.before.args.f in search rules)
-    (λ c κs. let l = laid c.before.before.before.before.before.before.args.f in search rules)
-    (λ c κs. let l = laid c.before.before.before.before.before.before.before.before.before.before.args.f in search rules)
+    (λ c κs. let l = laid c.args.f in search rules)
+    (λ c κs. let l = laid c.args.f in search rules)
+    (λ c κs. let l = laid c.args.f in search rules)
     (λ c. search rules)
     returns)

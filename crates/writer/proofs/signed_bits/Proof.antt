@@ -7,11 +7,10 @@ use borrow.Author.Rules.{rules}
 use Rattle.writer.proofs.signed_bits.Statement.{statement}
 use Rattle.writer.proofs.signed_bits.Tie as tie
 
-returns-2 : tie.Need-returns-2
+returns-2 : tie.Need-returns-in-Is
 returns-2 c =
-    let field = c.before.before.v.given in
-    let back = to_z-of_z {w = w64} {z = field.0.0} (record { sfits = c.before.known-told.given.0.1 }) in
-    rw field.1 (c.complement.ensures ∙ ap (of_z w64) back)
+    let back = to_z-of_z {w = w64} {z = c.in-Is.z} (record { sfits = c.in-Is.known_told-1-own.given.0.1 }) in
+    rw c.in-Is.is (c.complement.ensures ∙ ap (of_z w64) back)
 
 pub signed_bits_spec : {M : Type 1} → statement M
 signed_bits_spec =

@@ -12,14 +12,14 @@ use Rattle.answers.proofs.answer.agrees.Tie as tie
 alike : {k k' v v' : ℕ} {b b' : List ℕ} → k ≡ k' → v ≡ v' → b ≡ b' → outcome k v b ≡ outcome k' v' b'
 alike e f g = rw (e, f, g)
 
-returns : tie.Need-returns
-returns c = (λ e. let z : ◌≡◌ {A = ℕ} 0 1 = cc in absurd (omega arith), λ e. absurd (omega (arith, c.before.code_of_lem.ensures, ap (λ (o : Outcome). o.code) e)))
+returns : tie.Need-returns-then-code_of-code
+returns c = (λ e. let z : ◌≡◌ {A = ℕ} 0 1 = cc in absurd (omega arith), λ e. absurd (omega (arith, c.code_of_lem.ensures, ap (λ (o : Outcome). o.code) e)))
 
-returns-2 : tie.Need-returns-2
-returns-2 c = (λ e. let z : ◌≡◌ {A = ℕ} 0 1 = cc in absurd (omega arith), λ e. absurd (omega (arith, c.before.value_of_lem.ensures, ap (λ (o : Outcome). o.value) e)))
+returns-2 : tie.Need-returns-then-value_of-value
+returns-2 c = (λ e. let z : ◌≡◌ {A = ℕ} 0 1 = cc in absurd (omega arith), λ e. absurd (omega (arith, c.value_of_lem.ensures, ap (λ (o : Outcome). o.value) e)))
 
-returns-3 : tie.Need-returns-3
-returns-3 c = (λ e. alike (omega (arith, c.before.before.before.before.code_of_lem.ensures)) (omega (arith, c.before.before.value_of_lem.ensures)) (c.same.ensures.0 e), λ e. c.same.ensures.1 (ap (λ (o : Outcome). o.bytes) e))
+returns-3 : tie.Need-returns
+returns-3 c = (λ e. alike (omega (arith, c.code_of_lem.ensures)) (omega (arith, c.value_of_lem.ensures)) (c.same.ensures.0 e), λ e. c.same.ensures.1 (ap (λ (o : Outcome). o.bytes) e))
 
 pub agrees_spec : {M : Type 1} → statement M
 agrees_spec =

@@ -7,7 +7,7 @@ use Rattle.answers.proofs.answer.number_at.Statement.{statement}
 use Rattle.answers.proofs.answer.number_at.Tie as tie
 
 returns : tie.Need-returns
-returns c = c.decimal.ensures ∙ ap number_of c.before.field.ensures
+returns c = c.decimal.ensures ∙ ap number_of c.field.ensures
 
 pub number_at_spec : {M : Type 1} → statement M
 number_at_spec =

@@ -26,40 +26,37 @@ stored : (line : List ℕ) {t : List ℕ} → t ≡ field_of 6 line → (d d' : 
 unfolding call_stores
 stored line f d d' e p code = bytes_stored f d d' e p code
 
-slice-reshare-prefix-propagate-property : tie.Need-slice-reshare-prefix-propagate-property
+slice-reshare-prefix-propagate-property : tie.Need-slice_bounds-propagate_property-end
 slice-reshare-prefix-propagate-property c =
-    let put = c.before.before.before.before.before.before.before.before.before.before.before.before.before.before.before.before.before.before.before.before.before.bytes_of in
-    put_within c.before.before.before.before.before.before.before.before.before.before.before.before.before.before.before.before.before.a.given.1 (length put.new.1.0) put.ensures.1
+    let put = c.bytes_of-a in
+    put_within c.in-Len.is (length put.new.out) put.ensures.1
 
-slice-aggregate-propagate-property : tie.Need-slice-aggregate-propagate-property
+slice-aggregate-propagate-property : tie.Need-slice_bounds-propagate_property-end-2
 slice-aggregate-propagate-property c =
-    let put = c.before.before.before.before.before.before.before.before.before.before.before.before.before.before.before.before.before.before.before.before.before.before.bytes_of in
-    put_length c.before.before.before.before.before.before.before.before.before.before.before.before.before.before.before.before.before.before.a.given.1 put.new.1.0 put.ensures.1
+    let put = c.bytes_of-a in
+    put_length c.in-Len.is put.new.out put.ensures.1
 
-slice-reshare-prefix-propagate-property-2 : tie.Need-slice-reshare-prefix-propagate-property-2
+slice-reshare-prefix-propagate-property-2 : tie.Need-slice_bounds-propagate_property-end-3
 slice-reshare-prefix-propagate-property-2 c =
-    let put = c.before.before.before.before.before.before.before.before.before.before.before.before.before.before.bytes-of2 in
-    put_within c.before.before.before.before.before.before.before.before.before.before.b.given.1 (length put.new.1.0) put.ensures.1
+    let put = c.bytes_of-b in
+    put_within c.in-Len-b.is (length put.new.out) put.ensures.1
 
-slice-aggregate-propagate-property-2 : tie.Need-slice-aggregate-propagate-property-2
+slice-aggregate-propagate-property-2 : tie.Need-slice_bounds-propagate_property-end-4
 slice-aggregate-propagate-property-2 c =
-    let put = c.before.before.before.before.before.before.before.before.before.before.before.before.before.before.before.bytes-of2 in
-    put_length c.before.before.before.before.before.before.before.before.before.before.before.b.given.1 put.new.1.0 put.ensures.1
+    let put = c.bytes_of-b in
+    put_length c.in-Len-b.is put.new.out put.ensures.1
 
-same-length-7 : tie.Need-same-length-7
-same-length-7 c = c.before.before.before.before.before.before.before.before.before.before.before.before.before.before.before.before.before.before.before.before.before.before.before.before.before.before.before.before.before.before.before.bytes_of.auto.1.0
+same-length-7 : tie.Need-shape_of-left
+same-length-7 c = c.bytes_of-a.auto.out
 
-returns-4 : tie.Need-returns-4
+returns-4 : tie.Need-returns
 returns-4 c =
-    let a = c.before.before.before.before.before.before.before.before.before.before.before.before.before.before.before.before.before.before.before.before.before.before.before.before.before.before.before.before.before.before.before.before.before.before.before.before.before.before.before.args in
+    let a = c.args in
     let line = a.line.now in
-    let left = c.before.before.before.before.before.before.before.before.before.before.before.before.before.before.before.before.before.before.before.before.before.before.before.before.before.before.before.before.before.before.before in
-    let right = c.before.before.before.before.before.before.before.before.before.before.before.before.before.before.before.before.before.before.before.before.before.before.before in
-    let result = c.before.before.before.before.before.before.before.before.before.before.before.before.before.before.before in
-    let l = bytes_told left.before.before.field.ensures a.left.now left.bytes_of.new.1.0 c.before.before.before.before.before.before.before.before.before.before.before.before.before.before.before.before.before.before.before.before.before.before.before.before.before.before.before.a.given.1 left.bytes_of.ensures.0 in
-    let r = bytes_told right.before.before.field2.ensures a.right.now right.bytes-of2.new.1.0 c.before.before.before.before.before.before.before.before.before.before.before.before.before.before.before.before.before.before.before.b.given.1 right.bytes-of2.ensures.0 in
+    let l = bytes_told c.field.ensures a.left.now c.bytes_of-a.new.out c.in-Len.is c.bytes_of-a.ensures.0 in
+    let r = bytes_told c.field-2.ensures a.right.now c.bytes_of-b.new.out c.in-Len-b.is c.bytes_of-b.ensures.0 in
     let made = c.compared in
-    confirms made.result (asked line a.call.component a.call.node a.out.now l r c.before.before.before.before.before.before.propagate-property.ensures) (stored line result.before.before.field3.ensures a.expected.now result.bytes-of3.new.1.0 c.before.before.before.before.before.before.before.before.before.before.before.c.given.1 result.bytes-of3.ensures.0 a.call.code) made.ensures
+    confirms made.result (asked line a.call.component a.call.node a.out.now l r c.propagate_property-reply.ensures) (stored line c.field-3.ensures a.expected.now c.bytes_of-c.new.out c.in-Len-c.is c.bytes_of-c.ensures.0 a.call.code) made.ensures
 
 pub compared_spec : {M : Type 1} → statement M
 compared_spec =

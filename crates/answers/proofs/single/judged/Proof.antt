@@ -19,17 +19,14 @@ is_stored : (line out : List ℕ) {code : ℕ} → number_at 5 line ≡ N.Is cod
 unfolding call_stored with_number
 is_stored line out a = rw a
 
-returns-5 : tie.Need-returns-5
+returns-5 : tie.Need-returns
 returns-5 c =
-    let third = c.before.before.before.before.before.before.before.before.before.before.before.before.before.before in
-    let second = third.before.before.before.before in
-    let first = second.before.before.before.before in
-    let a = first.before.before.before.before.before.before.before.before.args in
+    let a = c.args in
     let line = a.line.now in
-    let component = sym first.before.before.number_at.ensures ∙ first.a.given.1 in
-    let node = sym second.before.before.number-at2.ensures ∙ second.b.given.1 in
-    let code = sym third.before.before.number-at3.ensures ∙ third.c.given.1 in
-    let made = c.before.before.before.before.before.before.compared in
+    let component = sym c.number_at-a.ensures ∙ c.in-Is.is in
+    let node = sym c.number_at-b.ensures ∙ c.in-Is-b.is in
+    let code = sym c.number_at-c.ensures ∙ c.in-Is-c.is in
+    let made = c.compared in
     confirms made.result (is_defined line a.out.now component node) (is_stored line a.expected.now code) made.ensures
 
 pub judged_spec : {M : Type 1} → statement M

@@ -25,26 +25,25 @@ stored : (line : List ℕ) (code value : ℕ) (d : List ℕ) {d' : List ℕ} →
 unfolding plan_stores bind
 stored line code value d e = rw e
 
-slice-reshare-prefix-propagate-properties : tie.Need-slice-reshare-prefix-propagate-properties
+slice-reshare-prefix-propagate-properties : tie.Need-slice_bounds-propagate_properties-end
 slice-reshare-prefix-propagate-properties c =
-    let put = c.before.before.before.before.before.before.before.before.before.before.before.before.before.before.before.bytes_of in
-    put_within c.before.before.before.before.before.before.before.before.before.before.before.a.given.1 (length put.new.1.0) put.ensures.1
+    let put = c.bytes_of-a in
+    put_within c.in-Len.is (length put.new.out) put.ensures.1
 
-slice-aggregate-propagate-properties : tie.Need-slice-aggregate-propagate-properties
+slice-aggregate-propagate-properties : tie.Need-slice_bounds-propagate_properties-end-2
 slice-aggregate-propagate-properties c =
-    let put = c.before.before.before.before.before.before.before.before.before.before.before.before.before.before.before.before.bytes_of in
-    put_length c.before.before.before.before.before.before.before.before.before.before.before.before.a.given.1 put.new.1.0 put.ensures.1
+    let put = c.bytes_of-a in
+    put_length c.in-Len.is put.new.out put.ensures.1
 
-returns-3 : tie.Need-returns-3
+returns-3 : tie.Need-returns
 returns-3 c =
-    let a = c.before.before.before.before.before.before.before.before.before.before.before.before.before.before.before.before.before.before.before.before.before.before.before.before.before.before.before.before.before.before.before.before.args in
+    let a = c.args in
     let line = a.line.now in
-    let put = c.before.before.before.before.before.before.before.before.before.before.before.before.before.before.before.before.before.before.before.before.before.before.before.before.before in
-    let p = bytes_told put.before.before.field.ensures a.plan.now put.bytes_of.new.1.0 c.before.before.before.before.before.before.before.before.before.before.before.before.before.before.before.before.before.before.before.before.before.a.given.1 put.bytes_of.ensures.0 in
-    let lay = c.before.before.before.before.before.before.before.before.before.before.before.before.before.before.before.before.before.laid_out in
-    let out = subst (λ (h : Held). LaidOut h line a.work.now lay.new.1.0 a.expected.now lay.new.1.1.0) c.before.before.before.before.before.before.before.before.before.before.before.b.given.1 lay.ensures in
+    let p = bytes_told c.field.ensures a.plan.now c.bytes_of-a.new.out c.in-Len.is c.bytes_of-a.ensures.0 in
+    let lay = c.laid_out in
+    let out = subst (λ (h : Held). LaidOut h line a.work.now lay.new.1.0 a.expected.now lay.new.1.1.0) c.in-Len-b.is lay.ensures in
     let made = c.compared in
-    confirms made.result (asked line a.work.now p out.1 c.before.before.before.before.before.before.before.propagate-properties.ensures.0) (stored line a.call.code a.call.value a.expected.now out.2) made.ensures
+    confirms made.result (asked line a.work.now p out.1 c.propagate_properties-reply.ensures.0) (stored line a.call.code a.call.value a.expected.now out.2) made.ensures
 
 pub compared_spec : {M : Type 1} → statement M
 compared_spec =

@@ -15,14 +15,12 @@ is_stored : (line work : List ℕ) {code value : ℕ} → number_at 3 line ≡ N
 unfolding plan_stored with_number
 is_stored line work a b = rw (a, b)
 
-returns-4 : tie.Need-returns-4
+returns-4 : tie.Need-returns
 returns-4 c =
-    let second = c.before.before.before.before.before.before.before.before.before.before.before in
-    let first = second.before.before.before.before in
-    let a = first.before.before.before.before.before.before.before.before.args in
-    let code = sym first.before.before.number_at.ensures ∙ first.a.given.1 in
-    let value = sym second.before.before.number-at2.ensures ∙ second.b.given.1 in
-    let made = c.before.before.before.before.before.compared in
+    let a = c.args in
+    let code = sym c.number_at-a.ensures ∙ c.in-Is.is in
+    let value = sym c.number_at-b.ensures ∙ c.in-Is-b.is in
+    let made = c.compared in
     confirms made.result refl (is_stored a.line.now a.expected.now code value) made.ensures
 
 pub judged_spec : {M : Type 1} → statement M

@@ -1,14 +1,15 @@
 -- `base::Component::from_number` meets its contract. Assumes nothing.
+use borrow.Author.Rules.{rules}
 use borrow.Author.Tests.{ne_eqb}
 use Rattle.base.specs.Components.{component_of}
 use Rattle.base.proofs.Component.from_number.Statement.{statement}
 use Rattle.base.proofs.Component.from_number.Tie as tie
 
-unlisted : tie.Need-returns-11
+unlisted : tie.Need-returns-in_default
 unfolding component_of
 unlisted c =
-    let n = c.before.args.n in
-    let r = c.match.rest in
+    let n = c.args.n in
+    let r = c.in_default.in_default-own.rest in
     simp (
       ne_eqb n 1 r.0.0.0.0.0.0.0.0.0.1,
       ne_eqb n 2 r.0.0.0.0.0.0.0.0.1,
@@ -27,14 +28,14 @@ unfolding component_of
 from_number_spec =
     tie.close
     (tie.spec
-    (λ c. rw c.match.keys1)
-    (λ c. rw c.match.keys2)
-    (λ c. rw c.match.keys3)
-    (λ c. rw c.match.keys4)
-    (λ c. rw c.match.keys5)
-    (λ c. rw c.match.keys6)
-    (λ c. rw c.match.keys7)
-    (λ c. rw c.match.keys8)
-    (λ c. rw c.match.keys9)
-    (λ c. rw c.match.keys10)
+    (λ c. search rules)
+    (λ c. search rules)
+    (λ c. search rules)
+    (λ c. search rules)
+    (λ c. search rules)
+    (λ c. search rules)
+    (λ c. search rules)
+    (λ c. search rules)
+    (λ c. search rules)
+    (λ c. search rules)
     unlisted)

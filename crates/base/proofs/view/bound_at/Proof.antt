@@ -12,24 +12,24 @@ use Rattle.base.proofs.Flags.{either_way}
 use Rattle.base.proofs.view.bound_at.Statement.{statement}
 use Rattle.base.proofs.view.bound_at.Tie as tie
 
-returns : tie.Need-returns
+returns : tie.Need-returns-then-s-at-eq0
 unfolding bound_at option_at
 returns c =
-    let a = c.before.before.before.args in
-    rw (eq-eqb (get_or a.s.now a.at 0) 0 c.if1.true) (either_way a.float Absent)
+    let a = c.args in
+    rw (eq-eqb (get_or a.s.now a.at 0) 0 c.if-s-at-eq0.true) (either_way a.float Absent)
 
-returns-2 : tie.Need-returns-2
+returns-2 : tie.Need-returns-then-float
 unfolding bound_at option_at
 returns-2 c =
-    let a = c.before.before.before.before.before.args in
-    rw (ne_eqb (get_or a.s.now a.at 0) 0 c.before.before.if1.false, c.before.if2.true) (ap Float c.f64-at.ensures)
+    let a = c.args in
+    rw (ne_eqb (get_or a.s.now a.at 0) 0 c.if-s-at-eq0.false, c.if-float.true) (ap Float c.f64_at.ensures)
 
-returns-3 : tie.Need-returns-3
+returns-3 : tie.Need-returns-else-float
 unfolding bound_at option_at
 returns-3 c =
-    let a = c.before.before.before.before.before.args in
-    let back = to_z-of_z {w = w64} {z = c.i64-at.result} (record { sfits = c.i64-at.type-inv }) in
-    rw (ne_eqb (get_or a.s.now a.at 0) 0 c.before.before.if1.false, c.before.if2.false, back) (ap Whole c.i64-at.ensures)
+    let a = c.args in
+    let back = to_z-of_z {w = w64} {z = c.i64_at.result} (record { sfits = c.i64_at.type_inv }) in
+    rw (ne_eqb (get_or a.s.now a.at 0) 0 c.if-s-at-eq0.false, c.if-float.false, back) (ap Whole c.i64_at.ensures)
 
 pub bound_at_spec : {M : Type 1} → statement M
 bound_at_spec =

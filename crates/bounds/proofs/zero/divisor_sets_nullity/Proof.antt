@@ -7,28 +7,25 @@ use Rattle.bounds.proofs.Zeros.{range_sets_nullity, lists_set_nullity, else_sets
 use Rattle.bounds.proofs.zero.divisor_sets_nullity.Statement.{statement}
 use Rattle.bounds.proofs.zero.divisor_sets_nullity.Tie as tie
 
-returns : tie.Need-returns
+returns : tie.Need-returns-then-nature-eq-FLOAT_RANGE
 returns c =
-    let s = c.before.before.before.before.before.args.s.now in
-    let F = form_of c.before.before.before.before.before.args.f in
-    rw (range_sets_nullity F s (sym c.before.before.nature-of.ensures ∙ c.before.if1.true), c.every-entry.ensures)
+    let s = c.args.s.now in
+    let F = form_of c.args.f in
+    rw (range_sets_nullity F s (sym c.nature_of-nature.ensures ∙ c.if-nature-eq-FLOAT_RANGE.true), c.every_entry.ensures)
 
-values-apart-requires : tie.Need-values-apart-requires
+values-apart-requires : tie.Need-values_apart-requires
 values-apart-requires c κs =
-    let b = c.before.before.before.before.before in
-    lists_fit (sized (form_of b.args.f) b.args.s.now b.requires.0 c.before.before.before.sizes-at.ensures) (ap is_range_nature (sym c.before.before.nature-of.ensures ∙ c.if2.true))
+    lists_fit (sized (form_of c.args.f) c.args.s.now c.requires.0 c.sizes_at-sizes.ensures) (ap is_range_nature (sym c.nature_of-nature.ensures ∙ c.if-nature-eq-FLOAT_LISTS.true))
 
-returns-2 : tie.Need-returns-2
+returns-2 : tie.Need-returns-then-nature-eq-FLOAT_LISTS
 returns-2 c =
-    let b = c.before.before.before.before.before.before in
-    let nature = sym c.before.before.before.nature-of.ensures ∙ c.before.if2.true in
-    rw (lists_set_nullity (form_of b.args.f) b.args.s.now b.requires.1 nature, ← c.before.before.before.before.sizes-at.ensures.categories, c.values-apart.ensures)
+    let nature = sym c.nature_of-nature.ensures ∙ c.if-nature-eq-FLOAT_LISTS.true in
+    rw (lists_set_nullity (form_of c.args.f) c.args.s.now c.requires.1 nature, ← c.sizes_at-sizes.ensures.categories, c.values_apart.ensures)
 
-returns-3 : tie.Need-returns-3
+returns-3 : tie.Need-returns
 returns-3 c =
-    let k = c.before.before.nature-of.ensures in
-    let b = c.before.before.before.before.before in
-    rw k (sym (else_sets_nullity (form_of b.args.f) b.args.s.now b.requires.1 (λ e. c.before.if1.false (k ∙ e)) (λ e. c.if2.false (k ∙ e))))
+    let k = c.nature_of-nature.ensures in
+    rw k (sym (else_sets_nullity (form_of c.args.f) c.args.s.now c.requires.1 (λ e. c.if-nature-eq-FLOAT_RANGE.false (k ∙ e)) (λ e. c.if-nature-eq-FLOAT_LISTS.false (k ∙ e))))
 
 pub divisor_sets_nullity_spec : {M : Type 1} → statement M
 divisor_sets_nullity_spec =

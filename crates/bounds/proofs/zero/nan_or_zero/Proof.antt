@@ -5,7 +5,7 @@ use lib.Dec.{T}
 use lib.Ieee as Ieee
 use lib.Ieee.{Float, binary64, of_bits}
 use lib.Ieee.Compare.{nan_differs}
-use Rattle.bytes.proofs.Patterns.{unequal_nan, equal_no_nan}
+use Rattle.octets.proofs.Patterns.{unequal_nan, equal_no_nan}
 use Rattle.numbers.specs.Kind.{zero_float}
 use Rattle.bounds.proofs.zero.nan_or_zero.Statement.{statement}
 use Rattle.bounds.proofs.zero.nan_or_zero.Tie as tie

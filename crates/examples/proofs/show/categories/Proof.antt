@@ -5,10 +5,10 @@ use borrow.Author.Rules.{rules}
 use Rattle.examples.proofs.show.categories.Statement.{statement}
 use Rattle.examples.proofs.show.categories.Tie as tie
 
-abbrev invariant-loop : tie.invariant-loop
+abbrev invariant-loop : tie.invariant-loop-k
 invariant-loop s n k₀ k = k ≤ n
 
-abbrev decreases-loop : tie.decreases-loop
+abbrev decreases-loop : tie.decreases-loop-k
 decreases-loop s n k₀ k = n - k
 
 pub categories_spec : {M : Type 1} → statement M

@@ -7,11 +7,11 @@ use native.Mathlib.Omega.{arith}
 use Rattle.examples.proofs.show.front.Statement.{statement}
 use Rattle.examples.proofs.show.front.Tie as tie
 
-slice-aggregate-result : tie.Need-slice-aggregate-result
-slice-aggregate-result c = sym (length-take-le c.before.before.args.n c.before.before.args.s.now c.before.if1.true)
+slice-aggregate-result : tie.Need-slice_bounds-result-end
+slice-aggregate-result c = sym (length-take-le c.args.n c.args.s.now c.if-n-s.true)
 
-returns-2 : tie.Need-returns-2
-returns-2 c = sym (take_all c.before.args.n c.before.args.s.now (omega arith))
+returns-2 : tie.Need-returns-else-n-s
+returns-2 c = sym (take_all c.args.n c.args.s.now (omega arith))
 
 pub front_spec : {M : Type 1} → statement M
 front_spec = tie.close (tie.spec slice-aggregate-result (λ c. search rules) returns-2)

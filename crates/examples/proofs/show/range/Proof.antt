@@ -5,10 +5,10 @@ use borrow.Author.Rules.{rules}
 use Rattle.examples.proofs.show.range.Statement.{statement}
 use Rattle.examples.proofs.show.range.Tie as tie
 
-abbrev invariant-loop : tie.invariant-loop
+abbrev invariant-loop : tie.invariant-loop-i
 invariant-loop s n i₀ i = i ≤ n
 
-abbrev decreases-loop : tie.decreases-loop
+abbrev decreases-loop : tie.decreases-loop-i
 decreases-loop s n i₀ i = n - i
 
 pub range_spec : {M : Type 1} → statement M

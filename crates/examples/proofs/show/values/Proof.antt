@@ -5,10 +5,10 @@ use borrow.Author.Rules.{rules}
 use Rattle.examples.proofs.show.values.Statement.{statement}
 use Rattle.examples.proofs.show.values.Tie as tie
 
-abbrev invariant-loop : tie.invariant-loop
+abbrev invariant-loop : tie.invariant-loop-i
 invariant-loop s k t i₀ i = i ≤ t
 
-abbrev decreases-loop : tie.decreases-loop
+abbrev decreases-loop : tie.decreases-loop-i
 decreases-loop s k t i₀ i = t - i
 
 pub values_spec : {M : Type 1} → statement M

@@ -4,10 +4,10 @@ use Rattle.std.proofs.Common.{◌-◌, ◌≤◌, rules}
 use Rattle.replay.proofs.tally.print_places.Statement.{statement}
 use Rattle.replay.proofs.tally.print_places.Tie as tie
 
-abbrev invariant-loop : tie.invariant-loop
+abbrev invariant-loop : tie.invariant-loop-k
 invariant-loop agree differ k₀ k = k ≤ 11
 
-abbrev decreases-loop : tie.decreases-loop
+abbrev decreases-loop : tie.decreases-loop-k
 decreases-loop agree differ k₀ k = 11 - k
 
 pub print_places_spec : {M : Type 1} → statement M

@@ -4,10 +4,10 @@ use Rattle.std.proofs.Common.{◌-◌, ◌≤◌, rules}
 use Rattle.replay.proofs.tally.sum.Statement.{statement}
 use Rattle.replay.proofs.tally.sum.Tie as tie
 
-abbrev invariant-loop : tie.invariant-loop
+abbrev invariant-loop : tie.invariant-loop-k
 invariant-loop counts total₀ k₀ total k = k ≤ 11
 
-abbrev decreases-loop : tie.decreases-loop
+abbrev decreases-loop : tie.decreases-loop-k
 decreases-loop counts total₀ k₀ total k = 11 - k
 
 pub sum_spec : {M : Type 1} → statement M

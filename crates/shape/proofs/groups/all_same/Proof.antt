@@ -8,10 +8,10 @@ use Rattle.shape.specs.Asked.{groups_meet}
 use Rattle.shape.proofs.groups.all_same.Statement.{statement}
 use Rattle.shape.proofs.groups.all_same.Tie as tie
 
-abbrev invariant-loop : tie.invariant-loop
+abbrev invariant-loop : tie.invariant-loop-i
 invariant-loop f left right g i₀ i = Holding (groups_meet (form_of f) g left right) g i (holds_from g 0 (groups_meet (form_of f) g left right))
 
-abbrev decreases-loop : tie.decreases-loop
+abbrev decreases-loop : tie.decreases-loop-i
 decreases-loop f left right g i₀ i = g - i
 
 pub all_same_spec : {M : Type 1} → statement M

@@ -6,17 +6,16 @@ use Rattle.shape.proofs.groups.same_group.Tie as tie
 
 returns : tie.Need-returns
 returns c =
-    let b = c.before.before.before.before in
     rw (
-      same_bits b.before.i64-at.result b.i64-at2.result (search rules) (search rules),
-      b.before.i64-at.ensures,
-      b.i64-at2.ensures,
-      c.before.before.before.u32-at.ensures,
-      c.before.before.u32-at2.ensures,
-      c.before.byte_at.ensures,
-      c.byte-at2.ensures,
+      same_bits c.i64_at-x.result c.i64_at-y.result (search rules) (search rules),
+      c.i64_at-x.ensures,
+      c.i64_at-y.ensures,
+      c.u32_at.ensures,
+      c.u32_at-2.ensures,
+      c.byte_at.ensures,
+      c.byte_at-2.ensures,
     )
-    (rw (b.before.before.before.partition-at.ensures, b.before.before.key-at.ensures))
+    (rw (c.partition_at-partition.ensures, c.key_at-key.ensures))
 
 pub same_group_spec : {M : Type 1} → statement M
 same_group_spec =

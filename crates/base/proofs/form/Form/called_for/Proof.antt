@@ -5,11 +5,11 @@ use borrow.Author.Rules.{rules}
 use Rattle.base.proofs.form.Form.called_for.Statement.{statement}
 use Rattle.base.proofs.form.Form.called_for.Tie as tie
 
-returns : tie.Need-returns
-returns c = rw (sym c.before.before.is-range.ensures ∙ c.before.if1.true) (omega arith)
+returns : tie.Need-returns-then-is_range
+returns c = rw (sym c.is_range.ensures ∙ c.if-is_range.true) (omega arith)
 
-returns-2 : tie.Need-returns-2
-returns-2 c = rw (sym c.before.before.is-range.ensures ∙ c.before.if1.false) (omega arith)
+returns-2 : tie.Need-returns
+returns-2 c = rw (sym c.is_range.ensures ∙ c.if-is_range.false) (omega arith)
 
 pub called_for_spec : {M : Type 1} → statement M
 called_for_spec =

@@ -4,11 +4,11 @@ use borrow.Author.Rules.{rules}
 use Rattle.base.proofs.form.Form.numbers_length.Statement.{statement}
 use Rattle.base.proofs.form.Form.numbers_length.Tie as tie
 
-returns : tie.Need-returns
-returns c = rw c.enum_told.given.1 (omega arith)
+returns : tie.Need-returns-in-Narrow
+returns c = rw c.in-Narrow.is (omega arith)
 
-returns-2 : tie.Need-returns-2
-returns-2 c = rw c.enum-told2.given.1 (omega arith)
+returns-2 : tie.Need-returns-in-Wide
+returns-2 c = rw c.in-Wide.is (omega arith)
 
 pub numbers_length_spec : {M : Type 1} → statement M
 numbers_length_spec = tie.close (tie.spec (λ c. search rules) (λ c. search rules) (λ c. search rules) (λ c. search rules) returns returns-2)

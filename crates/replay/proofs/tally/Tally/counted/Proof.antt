@@ -8,21 +8,21 @@ use Rattle.replay.proofs.tally.Tally.counted.Tie as tie
 at_place : (l : List ℕ) {k k' v : ℕ} → k ≡ k' → v ≡ one_more (get_or l k 0) → set l k v ≡ one_more_at k' l
 at_place l e f = rw (f, e)
 
-returns : tie.Need-returns
-returns c = (c.before.before.more.ensures, rw c.enum_told.given.1 (refl, refl, refl))
+returns : tie.Need-returns-in-Comment
+returns c = (c.more.ensures, rw c.in-Comment.is (refl, refl, refl))
 
-returns-2 : tie.Need-returns-2
-returns-2 c = (c.before.before.before.more.ensures, rw c.before.enum-told2.given.1 (c.more2.ensures, refl, refl))
+returns-2 : tie.Need-returns-in-Unread
+returns-2 c = (c.more.ensures, rw c.in-Unread.is (c.more-in-Unread.ensures, refl, refl))
 
-returns-3 : tie.Need-returns-3
+returns-3 : tie.Need-returns-in-Agrees
 returns-3 c =
-    let kept = c.with-told.ensures in
-    (kept.0 ∙ c.before.before.before.before.before.before.before.more.ensures, rw c.before.before.before.before.before.o.given.1 (kept.1, kept.2 ∙ at_place c.before.before.before.before.before.before.before.before.args.t1.agree c.before.before.before.place.ensures.1 c.before.more3.ensures, kept.3))
+    let kept = c.with_told.ensures in
+    (kept.0 ∙ c.more.ensures, rw c.in-Agrees.is (kept.1, kept.2 ∙ at_place c.args.t1.agree c.place-k.ensures.1 c.more-in-Agrees.ensures, kept.3))
 
-returns-4 : tie.Need-returns-4
+returns-4 : tie.Need-returns-in-Differs
 returns-4 c =
-    let kept = c.with-told2.ensures in
-    (kept.0 ∙ c.before.before.before.before.before.before.before.more.ensures, rw c.before.before.before.before.before.o2.given.1 (kept.1, kept.2, kept.3 ∙ at_place c.before.before.before.before.before.before.before.before.args.t1.differ c.before.before.before.place2.ensures.1 c.before.more4.ensures))
+    let kept = c.with_told-in-Differs.ensures in
+    (kept.0 ∙ c.more.ensures, rw c.in-Differs.is (kept.1, kept.2, kept.3 ∙ at_place c.args.t1.differ c.place-k-in-Differs.ensures.1 c.more-in-Differs.ensures))
 
 pub counted_spec : {M : Type 1} → statement M
 counted_spec =
