@@ -28,37 +28,31 @@ decreases-loop f left right n t values₀ limit area at₀ i₀ values at i = t 
 
 -- a join is read, and how long its text is
 module _ (e : tie.After-join_length-size invariant-loop decreases-loop) where
-  abbrev loop : tie.At-loop-i invariant-loop decreases-loop
-  loop = e.before.before.before.before
-
-  abbrev start : tie.Start invariant-loop decreases-loop
-  start = loop.before.before.before.before.before
-
   abbrev F : Form
-  F = form_of start.args.f
+  F = form_of e.args.f
 
   abbrev left : List ℕ
-  left = start.args.left.now
+  left = e.args.left.now
 
   abbrev right : List ℕ
-  right = start.args.right.now
+  right = e.args.right.now
 
   abbrev values : List ℕ
-  values = start.args.values.now
+  values = e.args.values.now
 
-  next : loop.loop.i < start.args.t
-  next = e.before.before.before.loop-test.taken
+  next : e.loop-i.i < e.args.t
+  next = e.loop-i-test.true
 
-  code_is : e.before.u64-at.result ≡ le_at 8 (8 * loop.loop.i) values
-  code_is = e.before.u64-at.ensures ∙ loop.loop.inv.3.joins loop.loop.i (omega arith) next
+  code_is : e.u64_at-c.result ≡ le_at 8 (8 * e.loop-i.i) values
+  code_is = e.u64_at-c.ensures ∙ e.loop-i.invariant.3.joins e.loop-i.i (omega arith) next
 
-  lies : JoinLies F left right (le_at 8 (8 * loop.loop.i) values)
-  lies = start.requires.1 loop.loop.i next
+  lies : JoinLies F left right (le_at 8 (8 * e.loop-i.i) values)
+  lies = e.requires.1 e.loop-i.i next
 
-  size_is : e.join-length.result ≡ length (text_at F left right values loop.loop.i)
-  size_is = e.join-length.ensures ∙ ap (λ (c : ℕ). part_length (left_part c) + part_length (right_part c)) code_is ∙ sym (join_size F lies)
+  size_is : e.join_length-size.result ≡ length (text_at F left right values e.loop-i.i)
+  size_is = e.join_length-size.ensures ∙ ap (λ (c : ℕ). part_length (left_part c) + part_length (right_part c)) code_is ∙ sym (join_size F lies)
 
-  size_below : e.join-length.result < 2 ^ 17
+  size_below : e.join_length-size.result < 2 ^ 17
   size_below = omega (arith, size_is, join_size F lies, join_below F lies)
 
 mul-area : tie.Need-overflow_mul-area invariant-loop decreases-loop
@@ -72,77 +66,75 @@ loop-holds c =
 mul-place : tie.Need-overflow_mul-place invariant-loop decreases-loop
 mul-place c = let s = small c.args.f in search rules
 
-add-if1 : tie.Need-overflow_add-at invariant-loop decreases-loop
-add-if1 c = let s = small (start c).args.f in record { fits = omega (arith, size_below c, (loop c).loop.invariant.1, s.text) }
+add-reach : tie.Need-overflow_add-at invariant-loop decreases-loop
+add-reach c = let s = small c.args.f in record { fits = omega (arith, size_below c, c.loop-i.invariant.1, s.text) }
 
 returns : tie.Need-returns-then-limit-at invariant-loop decreases-loop
 returns c =
     let e = c.before in
-    let l = (loop e).loop in
-    let s = start e in
+    let l = c.loop-i in
+    let a = c.args in
     let above : (F e).text_limit < l.at + length (text_at (F e) (left e) (right e) (values e) l.i) =
-    omega (arith, c.if-limit-at.true, size_is e, (loop e).text-limit.ensures.0) in
-    let over = laying_over (F e) (left e) (right e) (values e) s.args.t l.inv.3 (next e) (F e).text_limit above in
+    omega (arith, c.if-limit-at.true, size_is e, c.text_limit-limit.ensures.0) in
+    let over = laying_over (F e) (left e) (right e) (values e) a.t l.invariant.3 (next e) (F e).text_limit above in
     λ cs bytes fits.
     subst
-    (λ (xs : List (List ℕ)). AreaLaid (F e) s.args.n s.args.t xs l.values (D.Refused 28))
-    (codes_read (join_in (F e) (left e) (right e)) (values e) s.args.t cs (omega (arith, s.requires.0)) bytes fits)
-    (area_over (F e) s.args.n s.args.t _ l.values over)
+    (λ (xs : List (List ℕ)). AreaLaid (F e) a.n a.t xs l.values (D.Refused 28))
+    (codes_read (join_in (F e) (left e) (right e)) (values e) a.t cs (omega (arith, c.requires.0)) bytes fits)
+    (area_over (F e) a.n a.t _ l.values over)
 
 put-spot-requires : tie.Need-put_spot-requires invariant-loop decreases-loop
 put-spot-requires c κs =
     let e = c.before.before in
-    let l = (loop e).loop in
-    let s = small (start e).args.f in
-    (omega (arith, next e, l.inv.2, (start e).requires.0), omega (arith, l.inv.1, s.text), omega (arith, size_below e))
+    let l = c.loop-i in
+    let s = small c.args.f in
+    (omega (arith, next e, l.invariant.2, c.requires.0), omega (arith, l.invariant.1, s.text), omega (arith, size_below e))
 
 add-put-join : tie.Need-overflow_add-area invariant-loop decreases-loop
 add-put-join c =
-    let e = c.before.before.before.before.before.before in
-    let s = small (start e).args.f in
-    record { fits = omega (arith, (loop e).loop.invariant.1, s.text, s.categories, (start e).requires.0) }
+    let s = small c.args.f in
+    record { fits = omega (arith, c.loop-i.invariant.1, s.text, s.categories, c.requires.0) }
 
 put-join-requires : tie.Need-put_join-requires invariant-loop decreases-loop
 put-join-requires c κs =
     let p = c.before.before.before in
     let e = p.before.before.before in
-    let l = (loop e).loop in
-    let s = start e in
+    let l = c.loop-i in
     rw (code_is e)
-    (lies e, omega (arith, size_is e, c.if-limit-at.false, c.put_spot.auto.values, l.inv.2, (loop e).text-limit.ensures.0, s.requires.0))
+    (lies e, omega (arith, size_is e, c.if-limit-at.false, c.put_spot.auto.values, l.invariant.2, c.text_limit-limit.ensures.0, c.requires.0))
 
 add_at : tie.Need-overflow_add-at-in-loop-i invariant-loop decreases-loop
 add_at c =
     let e = c.before.before.before.before.before.before.before.before.before in
-    let s = small (start e).args.f in
-    record { fits = omega (arith, size_below e, (loop e).loop.invariant.1, s.text) }
+    let s = small c.args.f in
+    record { fits = omega (arith, size_below e, c.loop-i.invariant.1, s.text) }
 
 loop-again : tie.Need-loop-i-preserved invariant-loop decreases-loop
 loop-again c =
     let j = c.before.before in
     let p = j.before.before.before.before in
     let e = p.before.before.before in
-    let l = (loop e).loop in
-    let s = start e in
-    let within : l.at + c.join_length-size.result ≤ (F e).text_limit = omega (arith, c.if-limit-at.false, (loop e).text-limit.ensures.0) in
-    let laid = subst (λ (k : ℕ). Wrote c.put_spot.new.values (8 * s.args.t + l.at) (length (join_in (F e) (left e) (right e) k)) (join_in (F e) (left e) (right e) k) c.put_join.new.buf c.put_join.result) (code_is e) c.put_join.ensures in (
+    let l = c.loop-i in
+    let a = c.args in
+    let within : l.at + c.join_length-size.result ≤ (F e).text_limit = omega (arith, c.if-limit-at.false, c.text_limit-limit.ensures.0) in
+    let laid = subst (λ (k : ℕ). Wrote c.put_spot.new.values (8 * a.t + l.at) (length (join_in (F e) (left e) (right e) k)) (join_in (F e) (left e) (right e) k) c.put_join.new.buf c.put_join.result) (code_is e) c.put_join.ensures in (
       omega (arith, next e),
       within,
-      c.put_join.auto.buf ∙ c.put_spot.auto.values ∙ l.inv.2,
-      laying_more (F e) (left e) (right e) (values e) s.args.t l.inv.3
-          (next e) (size_is e) (omega (arith, l.inv.2, within, s.requires.0)) c.put_spot.auto.values c.put_spot.ensures.0 c.put_spot.ensures.1
+      c.put_join.auto.buf ∙ c.put_spot.auto.values ∙ l.invariant.2,
+      laying_more (F e) (left e) (right e) (values e) a.t l.invariant.3
+          (next e) (size_is e) (omega (arith, l.invariant.2, within, c.requires.0)) c.put_spot.auto.values c.put_spot.ensures.0 c.put_spot.ensures.1
           (same_size laid (sym (size_is e))),
     )
 
 -- an area keeps to its limit, which has 16 bits
-cast-t23 : tie.Need-overflow_cast-result invariant-loop decreases-loop
-cast-t23 c = let s = small c.args.f in record { fits = omega (arith, s.text, c.loop-i.invariant.1) }
+cast-text : tie.Need-overflow_cast-result invariant-loop decreases-loop
+cast-text c = let s = small c.args.f in record { fits = omega (arith, s.text, c.loop-i.invariant.1) }
 
 numbers-length-requires : tie.Need-numbers_length-requires invariant-loop decreases-loop
 numbers-length-requires c κs = let s = small c.args.f in search rules
 
-add-t25 : tie.Need-overflow_add-result invariant-loop decreases-loop
-add-t25 c = let s = small c.args.f in search rules
+add-second : tie.Need-overflow_add-result invariant-loop decreases-loop
+add-second c = let s = small c.args.f in search rules
 
 returns-2 : tie.Need-returns invariant-loop decreases-loop
 returns-2 c =
@@ -170,7 +162,7 @@ lay_texts_spec =
     mul-place
     (λ c κs. search rules)
     (λ c κs. search rules)
-    add-if1
+    add-reach
     (λ c. search rules)
     returns
     put-spot-requires
@@ -180,8 +172,8 @@ lay_texts_spec =
     (λ c. search rules)
     (λ c. search rules)
     loop-again
-    cast-t23
+    cast-text
     numbers-length-requires
-    add-t25
+    add-second
     (λ c. search rules)
     returns-2)

@@ -3,7 +3,6 @@ use mathlib.Core.Path.{refl}
 use Prim.Native.Nat.{◌+◌}
 use native.Mathlib.Omega.{arith}
 use borrow.Author.Rules.{rules}
-use Rattle.base.specs.Encode.{spot}
 use Rattle.text_areas.proofs.Laying.{part_over}
 use Rattle.text_areas.proofs.put_spot.Statement.{statement}
 use Rattle.text_areas.proofs.put_spot.Tie as tie

@@ -45,55 +45,43 @@ decreases-loop2 f left right us l bs r store₀ k₀ j m₀ store k m = r - m
 
 -- a part of left is read
 module _ (e : tie.After-note_join-arg-in-loop-j-1 invariant-loop decreases-loop invariant-loop2 decreases-loop2) where
-  abbrev loop : tie.At-loop-j invariant-loop decreases-loop invariant-loop2 decreases-loop2
-  loop = e.before.before.before
-
-  abbrev start : tie.Start invariant-loop decreases-loop invariant-loop2 decreases-loop2
-  start = loop.before.before.before
-
   abbrev part : ℤ
-  part = get_or start.args.us.now loop.loop.j (pos 0)
+  part = get_or e.args.us.now e.loop-j.j (pos 0)
 
-  left_next : loop.loop.j < start.args.l
-  left_next = e.before.before.loop-test.taken
+  left_next : e.loop-j.j < e.args.l
+  left_next = e.loop-j-test.true
 
   left_read : to_z w64 (of_z w64 part) ≡ part
   left_read = search rules
 
-  left_lies : JoinLies (form_of start.args.f) start.args.left.now start.args.right.now (whole_bits part)
-  left_lies = lies_alone (start.requires.1.0 loop.loop.j left_next) start.requires.1.3
+  left_lies : JoinLies (form_of e.args.f) e.args.left.now e.args.right.now (whole_bits part)
+  left_lies = lies_alone (e.requires.1.0 e.loop-j.j left_next) e.requires.1.3
 
 -- a part of right is read
 module _ (d : tie.After-complement invariant-loop decreases-loop invariant-loop2 decreases-loop2) where
-  abbrev loop₂ : tie.At-loop-m invariant-loop decreases-loop invariant-loop2 decreases-loop2
-  loop₂ = d.before.before.before
-
-  abbrev start₂ : tie.Start invariant-loop decreases-loop invariant-loop2 decreases-loop2
-  start₂ = loop₂.before.before.before.before.before
-
   abbrev part₂ : ℤ
-  part₂ = get_or start₂.args.bs.now loop₂.loop2.m (pos 0)
+  part₂ = get_or d.args.bs.now d.loop-m.m (pos 0)
 
-  right_next : loop₂.loop2.m < start₂.args.r
-  right_next = d.before.before.loop2-test.taken
+  right_next : d.loop-m.m < d.args.r
+  right_next = d.loop-m-test.true
 
   right_is : d.complement.result ≡ whole_bits part₂
   right_is =
       let read : to_z w64 (of_z w64 part₂) ≡ part₂ = search rules in
       d.complement.ensures ∙ ap whole_bits read
 
-  right_lies : PartLies (form_of start₂.args.f) start₂.args.right.now (whole_bits part₂)
-  right_lies = start₂.requires.1.1 loop₂.loop2.m right_next
+  right_lies : PartLies (form_of d.args.f) d.args.right.now (whole_bits part₂)
+  right_lies = d.requires.1.1 d.loop-m.m right_next
 
 -- its join with the empty part of left
 module _ (z : tie.After-signed-z invariant-loop decreases-loop invariant-loop2 decreases-loop2) where
   abbrev read : tie.After-complement invariant-loop decreases-loop invariant-loop2 decreases-loop2
   read = z.before.before
 
-  join_is : to_z w64 (of_z w64 z.signed.result) ≡ join_code (pos 0) (part₂ read)
+  join_is : to_z w64 (of_z w64 z.signed-z.result) ≡ join_code (pos 0) (part₂ read)
   join_is =
-      let same : to_z w64 (of_z w64 z.signed.result) ≡ z.signed.result = search rules in
-      same ∙ z.signed.ensures ∙ ap as_whole (z.before.join.ensures ∙ ap (join_of 0) (right_is read))
+      let same : to_z w64 (of_z w64 z.signed-z.result) ≡ z.signed-z.result = search rules in
+      same ∙ z.signed-z.ensures ∙ ap as_whole (z.join.ensures ∙ ap (join_of 0) (right_is read))
 
 loop-holds : tie.Need-loop-j-init invariant-loop decreases-loop invariant-loop2 decreases-loop2
 unfolding firsts firsts_from
@@ -101,23 +89,23 @@ loop-holds c = (omega arith, refl, omega arith, λ i h. absurd (omega arith), st
 
 note-join-requires : tie.Need-note_join-k-requires invariant-loop decreases-loop invariant-loop2 decreases-loop2
 note-join-requires c κs =
-    let l = (loop c).loop in
-    (l.inv.2, omega (arith, l.inv.1, (start c).requires.0), l.inv.3, rw (left_read c) (left_lies c))
+    let l = c.loop-j.invariant in
+    (l.2, omega (arith, l.1, c.requires.0), l.3, rw (left_read c) (left_lies c))
 
 loop-again : tie.Need-loop-j-preserved invariant-loop decreases-loop invariant-loop2 decreases-loop2
 loop-again c =
     let noting = c.note_join-k in
     let e = c.before.before in
-    let l = (loop e).loop in
-    let a = (start e).args in
+    let l = c.loop-j in
+    let a = c.args in
     let us = a.us.now in
-    let within : l.j < length us = omega (arith, left_next e, (start e).requires.0.0) in (
+    let within : l.j < length us = omega (arith, left_next e, c.requires.0.0) in (
       omega (arith, left_next e),
-      noting.auto.store ∙ l.inv.1,
+      noting.auto.store ∙ l.invariant.1,
       omega (arith, noting.ensures.0, noting.auto.store),
       noting.ensures.1,
       stored_more (same_join (form_of a.f) a.left.now a.right.now) [] (take l.j us) (take (l.j + 1) us)
-          (left_read e) (taken_more us l.j within) noting.ensures.2 l.inv.4,
+          (left_read e) (taken_more us l.j within) noting.ensures.2 l.invariant.4,
     )
 
 loop2-holds : tie.Need-loop-m-init invariant-loop decreases-loop invariant-loop2 decreases-loop2
@@ -140,31 +128,29 @@ join-requires c κs = (omega arith, rw (right_is c) (right_lies c).small)
 note-join-requires-2 : tie.Need-note_join-k-requires-in-loop-m invariant-loop decreases-loop invariant-loop2 decreases-loop2
 note-join-requires-2 c κs =
     let z = c.before in
-    let n = (loop₂ (read z)).loop2 in
-    let s = start₂ (read z) in
-    let a = s.args in (
-      n.inv.2,
-      omega (arith, n.inv.1, (loop₂ (read z)).loop.inv.1, s.requires.0),
-      n.inv.3,
-      rw (join_is z) (pair_lies (form_of a.f) a.left.now a.right.now 0 (whole_bits (part₂ (read z))) s.requires.1.2 (right_lies (read z))),
+    let n = c.loop-m.invariant in
+    let a = c.args in (
+      n.2,
+      omega (arith, n.1, c.loop-j.invariant.1, c.requires.0),
+      n.3,
+      rw (join_is z) (pair_lies (form_of a.f) a.left.now a.right.now 0 (whole_bits (part₂ (read z))) c.requires.1.2 (right_lies (read z))),
     )
 
 loop2-again : tie.Need-loop-m-preserved invariant-loop decreases-loop invariant-loop2 decreases-loop2
 loop2-again c =
     let noting = c.note_join-k-in-loop-m in
     let z = c.before.before.before in
-    let n = (loop₂ (read z)).loop2 in
-    let s = start₂ (read z) in
-    let a = s.args in
+    let n = c.loop-m in
+    let a = c.args in
     let bs = a.bs.now in
     let code = join_code (pos 0) in
-    let within : n.m < length bs = omega (arith, right_next (read z), s.requires.0.1) in (
+    let within : n.m < length bs = omega (arith, right_next (read z), c.requires.0.1) in (
       omega (arith, right_next (read z)),
-      noting.auto.store ∙ n.inv.1,
+      noting.auto.store ∙ n.invariant.1,
       omega (arith, noting.ensures.0, noting.auto.store),
       noting.ensures.1,
       stored_more (same_join (form_of a.f) a.left.now a.right.now) (take a.l a.us.now) (map code (take n.m bs)) (map code (take (n.m + 1) bs))
-          (join_is z) (row_more code bs n.m within) noting.ensures.2 n.inv.4,
+          (join_is z) (row_more code bs n.m within) noting.ensures.2 n.invariant.4,
     )
 
 returns : tie.Need-returns invariant-loop decreases-loop invariant-loop2 decreases-loop2

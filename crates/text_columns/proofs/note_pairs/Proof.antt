@@ -49,37 +49,31 @@ decreases-loop f left right us l bs r store₀ k₀ i₀ store k i = l - i
 
 -- a part of left is read
 module _ (e : tie.After-complement-a invariant-loop2 decreases-loop2 invariant-loop decreases-loop) where
-  abbrev loop : tie.At-loop-i invariant-loop2 decreases-loop2 invariant-loop decreases-loop
-  loop = e.before.before.before
-
-  abbrev start : tie.Start invariant-loop2 decreases-loop2 invariant-loop decreases-loop
-  start = loop.before.before.before
-
   abbrev F : Form
-  F = form_of start.args.f
+  F = form_of e.args.f
 
   abbrev left : List ℕ
-  left = start.args.left.now
+  left = e.args.left.now
 
   abbrev right : List ℕ
-  right = start.args.right.now
+  right = e.args.right.now
 
   abbrev us : List ℤ
-  us = start.args.us.now
+  us = e.args.us.now
 
   abbrev bs : List ℤ
-  bs = start.args.bs.now
+  bs = e.args.bs.now
 
-  left_next : loop.loop.i < start.args.l
-  left_next = e.before.before.loop-test.taken
+  left_next : e.loop-i.i < e.args.l
+  left_next = e.loop-i-test.true
 
-  left_is : e.complement.result ≡ whole_bits (get_or us loop.loop.i (pos 0))
+  left_is : e.complement-a.result ≡ whole_bits (get_or us e.loop-i.i (pos 0))
   left_is =
-      let read : to_z w64 (of_z w64 (get_or us loop.loop.i (pos 0))) ≡ get_or us loop.loop.i (pos 0) = search rules in
-      e.complement.ensures ∙ ap whole_bits read
+      let read : to_z w64 (of_z w64 (get_or us e.loop-i.i (pos 0))) ≡ get_or us e.loop-i.i (pos 0) = search rules in
+      e.complement-a.ensures ∙ ap whole_bits read
 
-  left_lies : PartLies F left e.complement.result
-  left_lies = subst (PartLies F left) (sym left_is) (start.requires.1.0 loop.loop.i left_next)
+  left_lies : PartLies F left e.complement-a.result
+  left_lies = subst (PartLies F left) (sym left_is) (e.requires.1.0 e.loop-i.i left_next)
 
 -- and a part of right
 module _ (d : tie.After-complement invariant-loop2 decreases-loop2 invariant-loop decreases-loop) where
@@ -87,28 +81,28 @@ module _ (d : tie.After-complement invariant-loop2 decreases-loop2 invariant-loo
   outer = d.before.before.before.before
 
   abbrev m : ℕ
-  m = d.before.before.before.loop2.m
+  m = d.loop-m.m
 
-  right_next : m < (start outer).args.r
-  right_next = d.before.before.loop2-test.taken
+  right_next : m < d.args.r
+  right_next = d.loop-m-test.true
 
-  right_is : d.complement2.result ≡ whole_bits (get_or (bs outer) m (pos 0))
+  right_is : d.complement.result ≡ whole_bits (get_or (bs outer) m (pos 0))
   right_is =
       let read : to_z w64 (of_z w64 (get_or (bs outer) m (pos 0))) ≡ get_or (bs outer) m (pos 0) = search rules in
-      d.complement2.ensures ∙ ap whole_bits read
+      d.complement.ensures ∙ ap whole_bits read
 
-  right_lies : PartLies (F outer) (right outer) d.complement2.result
-  right_lies = subst (PartLies (F outer) (right outer)) (sym right_is) ((start outer).requires.1.1 m right_next)
+  right_lies : PartLies (F outer) (right outer) d.complement.result
+  right_lies = subst (PartLies (F outer) (right outer)) (sym right_is) (d.requires.1.1 m right_next)
 
 -- their join
 module _ (z : tie.After-signed-z invariant-loop2 decreases-loop2 invariant-loop decreases-loop) where
   abbrev parts : tie.After-complement invariant-loop2 decreases-loop2 invariant-loop decreases-loop
   parts = z.before.before
 
-  join_is : to_z w64 (of_z w64 z.signed.result) ≡ as_whole (join_of (outer parts).complement.result parts.complement2.result)
+  join_is : to_z w64 (of_z w64 z.signed-z.result) ≡ as_whole (join_of z.complement-a.result z.complement.result)
   join_is =
-      let read : to_z w64 (of_z w64 z.signed.result) ≡ z.signed.result = search rules in
-      read ∙ z.signed.ensures ∙ ap as_whole z.before.join.ensures
+      let read : to_z w64 (of_z w64 z.signed-z.result) ≡ z.signed-z.result = search rules in
+      read ∙ z.signed-z.ensures ∙ ap as_whole z.join.ensures
 
 loop-holds : tie.Need-loop-i-init invariant-loop2 decreases-loop2 invariant-loop decreases-loop
 unfolding firsts firsts_from pair_codes
@@ -118,26 +112,26 @@ loop-holds c =
 
 loop2-holds : tie.Need-loop-m-init invariant-loop2 decreases-loop2 invariant-loop decreases-loop
 loop2-holds c =
-    let l = (loop c).loop in
-    (omega arith, refl, l.inv.2, l.inv.3, λ cs h. subst (λ (zs : List ℤ). Stored l.k l.store (firsts (same_join (F c) (left c) (right c)) zs)) (sym (append-nil cs)) h)
+    let l = c.loop-i in
+    (omega arith, refl, l.invariant.2, l.invariant.3, λ cs h. subst (λ (zs : List ℤ). Stored l.k l.store (firsts (same_join (F c) (left c) (right c)) zs)) (sym (append-nil cs)) h)
 
 loop-again : tie.Need-loop-i-preserved invariant-loop2 decreases-loop2 invariant-loop decreases-loop
 loop-again c =
     let e = c.before.before in
-    let l = (loop e).loop in
+    let l = c.loop-i in
     let n = c.loop-m in
-    let s = start e in
-    let all : n.m ≡ s.args.r = omega (arith, c.loop-m-test.false, n.invariant.0) in
-    let within : l.i < length (us e) = omega (arith, left_next e, s.requires.0.0) in
-    let done = pair_codes (take l.i (us e)) (take s.args.r (bs e)) in
-    let row : map (join_with c.complement-a.result) (take n.m (bs e)) ≡ map (join_code (get_or (us e) l.i (pos 0))) (take s.args.r (bs e)) =
+    let a = c.args in
+    let all : n.m ≡ a.r = omega (arith, c.loop-m-test.false, n.invariant.0) in
+    let within : l.i < length (us e) = omega (arith, left_next e, c.requires.0.0) in
+    let done = pair_codes (take l.i (us e)) (take a.r (bs e)) in
+    let row : map (join_with c.complement-a.result) (take n.m (bs e)) ≡ map (join_code (get_or (us e) l.i (pos 0))) (take a.r (bs e)) =
     (λ j. map (join_with (left_is e j)) (take (all j) (bs e))) in
-    let rows = ap (λ (zs : List ℤ). done ++ zs) row ∙ sym (pairs_more (us e) (take s.args.r (bs e)) l.i within) in (
+    let rows = ap (λ (zs : List ℤ). done ++ zs) row ∙ sym (pairs_more (us e) (take a.r (bs e)) l.i within) in (
       omega (arith, left_next e),
-      n.invariant.1 ∙ l.inv.1,
+      n.invariant.1 ∙ l.invariant.1,
       n.invariant.2,
       n.invariant.3,
-      subst (λ (zs : List ℤ). Stored n.k n.store (firsts (same_join (F e) (left e) (right e)) zs)) rows (n.invariant.4 done l.inv.4),
+      subst (λ (zs : List ℤ). Stored n.k n.store (firsts (same_join (F e) (left e) (right e)) zs)) rows (n.invariant.4 done l.invariant.4),
     )
 
 join-requires : tie.Need-join-requires invariant-loop2 decreases-loop2 invariant-loop decreases-loop
@@ -147,10 +141,10 @@ note-join-requires : tie.Need-note_join-k-requires invariant-loop2 decreases-loo
 note-join-requires c κs =
     let z = c.before in
     let e = outer (parts z) in
-    let n = (parts z).loop2 in (
-      n.inv.2,
-      omega (arith, n.inv.1, (loop e).loop.inv.1, (start e).requires.0),
-      n.inv.3,
+    let n = c.loop-m.invariant in (
+      n.2,
+      omega (arith, n.1, c.loop-i.invariant.1, c.requires.0),
+      n.3,
       subst (λ (y : ℤ). JoinLies (F e) (left e) (right e) (whole_bits y)) (sym (join_is z)) (pair_lies (F e) (left e) (right e) _ _ (left_lies e) (right_lies (parts z))),
     )
 
@@ -159,11 +153,11 @@ loop2-again c =
     let noting = c.note_join-k in
     let z = c.before.before.before in
     let e = outer (parts z) in
-    let n = (parts z).loop2 in
-    let a = e.complement.result in
-    let within : n.m < length (bs e) = omega (arith, right_next (parts z), (start e).requires.0.1) in (
+    let n = c.loop-m in
+    let a = c.complement-a.result in
+    let within : n.m < length (bs e) = omega (arith, right_next (parts z), c.requires.0.1) in (
       omega (arith, right_next (parts z)),
-      noting.auto.store ∙ n.inv.1,
+      noting.auto.store ∙ n.invariant.1,
       omega (arith, noting.ensures.0, noting.auto.store),
       noting.ensures.1,
       λ cs h.
@@ -171,7 +165,7 @@ loop2-again c =
           (join_is z ∙ ap (λ (q : ℕ). as_whole (join_of a q)) (right_is (parts z)))
           (row_more (join_with a) (bs e) n.m within)
           noting.ensures.2
-          (n.inv.4 cs h),
+          (n.invariant.4 cs h),
     )
 
 returns : tie.Need-returns invariant-loop2 decreases-loop2 invariant-loop decreases-loop

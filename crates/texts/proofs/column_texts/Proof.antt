@@ -14,7 +14,6 @@ use Rattle.texts.proofs.column_texts.Tie as tie
 
 returns : tie.Need-returns-then-sizes-eq1
 returns c =
-    let q = c.before in
     let a = c.args in
     let F = form_of a.f in
     let s = a.s.now in
@@ -30,7 +29,6 @@ text-list-requires-2 c κs =
 
 returns-2 : tie.Need-returns
 returns-2 c =
-    let q = c.before in
     let a = c.args in
     let F = form_of a.f in
     let s = a.s.now in

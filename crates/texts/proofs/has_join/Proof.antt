@@ -39,7 +39,6 @@ value c =
 same-join-requires : tie.Need-same_join-requires invariant-loop decreases-loop
 same-join-requires c κs =
     let l = c.loop-i in
-    let z = c.before.before.before.before in
     let a = c.args in
     let lies = JoinLies (form_of a.f) a.left.now a.right.now in
     let test : l.i < a.k = c.loop-i-test.true in
@@ -57,7 +56,6 @@ compared c =
 
 returns : tie.Need-returns-then-same_join invariant-loop decreases-loop
 returns c =
-    let q = c.before in
     let l = c.loop-i in
     let a = c.args in
     let store = a.store.now in
@@ -68,7 +66,6 @@ returns c =
 
 loop-again : tie.Need-loop-i-preserved invariant-loop decreases-loop
 loop-again c =
-    let q = c.before in
     let l = c.loop-i in
     let a = c.args in
     let store = a.store.now in

@@ -11,8 +11,8 @@ use Rattle.texts.proofs.join_byte.Statement.{statement}
 use Rattle.texts.proofs.join_byte.Tie as tie
 
 -- how many bytes the left part has, as the code reads it
-left_length : (c : tie.After-part-length) → c.part_length.result ≡ part_length (left_part c.before.before.before.before.args.c)
-left_length c = c.part_length.ensures.0 ∙ ap part_length c.before.left_part-p.ensures.0
+left_length : (c : tie.After-part_length-n) → c.part_length-n.result ≡ part_length (left_part c.args.c)
+left_length c = c.part_length-n.ensures.0 ∙ ap part_length c.before.left_part-p.ensures.0
 
 behind : {i n m r : ℕ} → i < n + m → n ≤ i → m ≡ r → i - n < r
 behind h k e = omega arith
@@ -42,7 +42,7 @@ returns-2 c =
     let a = c.args in
     let F = form_of a.f in
     let right = a.right.now in
-    let m = c.part_length.result in
+    let m = c.part_length-n.result in
     c.part_byte-2.ensures
     ∙ ap (λ (p : ℕ). get_or (part_in F right p) (a.i - m) 0) c.right_part.ensures.0
     ∙ sym (join_right F c.requires.0 a.i m (left_length n) c.if-i-n.false)

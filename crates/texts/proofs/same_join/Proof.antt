@@ -30,8 +30,6 @@ decreases-loop f left right a b n i₀ i = n - i
 
 returns : tie.Need-returns-then-n-join_length invariant-loop decreases-loop
 returns c =
-    let m = c.before in
-    let n = m.before in
     let a = c.args in
     let F = form_of a.f in
     let x = join_in F a.left.now a.right.now a.a in
@@ -42,8 +40,6 @@ returns c =
 
 loop-holds : tie.Need-loop-i-init invariant-loop decreases-loop
 loop-holds c =
-    let m = c.before in
-    let n = m.before in
     let F = form_of c.args.f in
     let first = c.join_length-n.ensures in
     let second = c.if-n-join_length.false ∙ c.join_length.ensures in
@@ -51,8 +47,6 @@ loop-holds c =
 
 returns-2 : tie.Need-returns-then-join_byte invariant-loop decreases-loop
 returns-2 c =
-    let q = c.before in
-    let p = q.before in
     let l = c.loop-i in
     let a = c.args in
     let F = form_of a.f in
@@ -65,8 +59,6 @@ returns-2 c =
 
 loop-again : tie.Need-loop-i-preserved invariant-loop decreases-loop
 loop-again c =
-    let q = c.before in
-    let p = q.before in
     let l = c.loop-i in
     let a = c.args in
     let F = form_of a.f in

@@ -60,7 +60,6 @@ value-at-requires c κs = let f = c.loop-i.invariant.0 in (f.groups_within, f.ca
 
 loop-again : tie.Need-loop-i-preserved-then-number-j invariant-loop decreases-loop
 loop-again c =
-    let q = c.before.before in
     let l = c.loop-i in
     let a = c.args in
     let F = form_of a.f in
@@ -117,11 +116,8 @@ note-join-requires c κs =
 
 loop-again-2 : tie.Need-loop-i-preserved invariant-loop decreases-loop
 loop-again-2 c =
-    let n = c.before in
-    let q = n.before.before.before.before.before.before.before in
     let test : c.loop-i.i < c.sizes_at-sizes.result.categories = c.loop-i-test.true in
     let l = c.loop-i in
-    let z = q.before.before.before in
     let a = c.args in
     let F = form_of a.f in
     let s = a.s.now in

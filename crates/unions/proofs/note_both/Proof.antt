@@ -1,12 +1,11 @@
 -- `unions::note_both` meets its contract. Assumes nothing.
-use mathlib.Core.Path.{◌≡◌, refl, sym, subst}
-use mathlib.Core.List.{List, [], ◌++◌}
+use mathlib.Core.Path.{sym, subst}
+use mathlib.Core.List.{[]}
 use native.Mathlib.Omega.{arith}
-use lib.IntN.{ℤ}
-use lib.ListN.{length, take}
+use lib.ListN.{take}
 use borrow.Author.Rules.{rules}
 use Rattle.numbers.specs.Kind.{eq_z}
-use Rattle.utilities.specs.Lists.{firsts, firsts_from}
+use Rattle.utilities.specs.Lists.{firsts}
 use Rattle.utilities.proofs.Firsts.{firsts_from_append}
 use Rattle.utilities.proofs.Hints.{hinting_none}
 use Rattle.category_lists.specs.Answers.{Stored}
