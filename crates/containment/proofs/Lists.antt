@@ -40,6 +40,7 @@ in_list {X} {v} e h = subst (λ (l : List X). Memᴰ v l) e h
 
 each_found : {X Y : Type 0} (f : X → Result Y) (a : X) (us : List X) {cs : List Y} → each f us ≡ ok cs → Memᴰ a us → Found (f a) cs
 unfolding each
+each_found f a [] e m = elim m [ ]
 each_found f a (u ∷ us) e (Memᴰ.head h) =
     let s = then_ok_inv (f u) _ e in
     let t = then_ok_inv (each f us) _ s.after in
@@ -53,6 +54,7 @@ each_found f a (u ∷ us) e (Memᴰ.tail m) =
 pairs_found : {X : Type 0} (rule : X → X → Result X) (a b : X) (us bs : List X) {cs : List X}
     → pairs rule us bs ≡ ok cs → Memᴰ a us → Memᴰ b bs → Found (rule a b) cs
 unfolding pairs
+pairs_found rule a b [] bs e m n = elim m [ ]
 pairs_found {X} rule a b (u ∷ us) bs e (Memᴰ.head h) n =
     let s = then_ok_inv (each (rule u) bs) _ e in
     let t = then_ok_inv (pairs rule us bs) _ s.after in
