@@ -5,8 +5,8 @@ mod sheet; // operands
 mod show; // what bytes say
 
 use base::{Bound, Component, form};
-use libc::STDOUT_FILENO;
 use sheet::Ends;
+use words::STDOUT;
 
 // The node number of every call.
 const CALL_NODE: u32 = 9;
@@ -19,23 +19,23 @@ fn derive(component: u32, left: &[u8], right: &[u8], out: &mut [u8]) -> usize {
     words::component(component, b" ");
     show::sheet(left);
     if 0 < right.len() {
-        io::write_all(STDOUT_FILENO, b", ");
+        io::write_all(STDOUT, b", ");
         show::sheet(right);
     }
     let reply = gate::propagate_property(component, CALL_NODE, left, right, out);
     let n = (reply / LENGTH_UNIT) as usize;
-    io::write_all(STDOUT_FILENO, b" -> ");
+    io::write_all(STDOUT, b" -> ");
     if reply % LENGTH_UNIT == 0 {
         show::sheet(show::front(out, n));
     } else {
-        io::write_all(STDOUT_FILENO, b"refused with ");
-        io::print_decimal(STDOUT_FILENO, reply % LENGTH_UNIT);
+        io::write_all(STDOUT, b"refused with ");
+        io::print_decimal(STDOUT, reply % LENGTH_UNIT);
     }
     n
 }
 
 fn line_end() {
-    io::write_all(STDOUT_FILENO, b"\n");
+    io::write_all(STDOUT, b"\n");
 }
 
 // Abs and Negative do not read the right sheet: it has no byte.
@@ -119,9 +119,9 @@ fn node_of_modulo() {
         show::front(&right, r),
         &mut out,
     );
-    io::write_all(STDOUT_FILENO, b"; node ");
+    io::write_all(STDOUT, b"; node ");
     show::node(show::front(&left, l));
-    io::write_all(STDOUT_FILENO, b" -> node ");
+    io::write_all(STDOUT, b" -> node ");
     show::node(show::front(&out, n));
     line_end();
 }
@@ -141,11 +141,11 @@ fn rows_of_one_dataset() {
         show::front(&right, r),
         &mut out,
     );
-    io::write_all(STDOUT_FILENO, b"; rows ");
+    io::write_all(STDOUT, b"; rows ");
     show::rows(show::front(&left, l));
-    io::write_all(STDOUT_FILENO, b" and ");
+    io::write_all(STDOUT, b" and ");
     show::rows(show::front(&right, r));
-    io::write_all(STDOUT_FILENO, b" -> rows ");
+    io::write_all(STDOUT, b" -> rows ");
     show::rows(show::front(&out, n));
     line_end();
 }
@@ -240,22 +240,22 @@ fn counted() {
 }
 
 fn main() {
-    io::write_all(STDOUT_FILENO, b"Starred\n");
+    io::write_all(STDOUT, b"Starred\n");
     starred();
     starred_too();
-    io::write_all(STDOUT_FILENO, b"Not starred\n");
+    io::write_all(STDOUT, b"Not starred\n");
     categories_alone(Component::ABS, -3, 3, 1, 1);
     pair(Component::ADD, sheet::whole(1, 2), sheet::whole(10, 20), 16);
     pair(Component::ADD, sheet::whole(1, 2), sheet::whole(10, 20), 17);
-    io::write_all(STDOUT_FILENO, b"Traps\n");
+    io::write_all(STDOUT, b"Traps\n");
     alone(Component::ABS, sheet::whole(0, 5));
     node_of_modulo();
     with_categories(Component::ADD, 1, 2, 2, 3);
     rows_of_one_dataset();
-    io::write_all(STDOUT_FILENO, b"Pool\n");
+    io::write_all(STDOUT, b"Pool\n");
     pooled();
-    io::write_all(STDOUT_FILENO, b"Subtract of ranges\n");
+    io::write_all(STDOUT, b"Subtract of ranges\n");
     differences();
-    io::write_all(STDOUT_FILENO, b"Category lists\n");
+    io::write_all(STDOUT, b"Category lists\n");
     counted();
 }

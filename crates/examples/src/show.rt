@@ -3,7 +3,7 @@ ghost use Rattle.std.specs.Prelude.{◌≡◌, ◌<◌, take};
 
 use crate::sheet;
 use base::form;
-use libc::STDOUT_FILENO;
+use words::STDOUT;
 
 // The first n bytes of s.
 pub(crate) fn front(s: &[u8], n: usize) -> &[u8]
@@ -30,17 +30,17 @@ fn count_at(s: &[u8], at: usize) -> usize
 
 // What is said of a place past the end.
 fn missing() {
-    io::write_all(STDOUT_FILENO, b"missing");
+    io::write_all(STDOUT, b"missing");
 }
 
 // The signed number whose two's complement is `v`, with its sign.
 fn signed(v: u64) {
     if v < 0x8000_0000_0000_0000 {
-        io::write_all(STDOUT_FILENO, b"+");
+        io::write_all(STDOUT, b"+");
     } else {
-        io::write_all(STDOUT_FILENO, b"-");
+        io::write_all(STDOUT, b"-");
     }
-    io::print_decimal(STDOUT_FILENO, words::magnitude(v));
+    io::print_decimal(STDOUT, words::magnitude(v));
 }
 
 // The 64 bits at a place, as a signed number.
@@ -61,7 +61,7 @@ fn marked(s: &[u8], mark: usize, at: usize) {
     if s.len() <= mark {
         missing();
     } else if base::byte_at(s, mark) == 0 {
-        io::write_all(STDOUT_FILENO, b"absent");
+        io::write_all(STDOUT, b"absent");
     } else {
         number_at(s, at);
     }
@@ -78,11 +78,11 @@ fn entry(s: &[u8], n: usize, i: usize)
     requires { (n < 256) × (i < n) }
 {
     let lower = form::NARROW_ARRAYS_AT + form::END_WIDTH * i;
-    io::write_all(STDOUT_FILENO, b"[");
+    io::write_all(STDOUT, b"[");
     end_at(s, lower);
-    io::write_all(STDOUT_FILENO, b", ");
+    io::write_all(STDOUT, b", ");
     end_at(s, lower + form::END_WIDTH * n);
-    io::write_all(STDOUT_FILENO, b"]");
+    io::write_all(STDOUT, b"]");
 }
 
 fn range(s: &[u8]) {
@@ -104,7 +104,7 @@ fn category(s: &[u8], t: usize, i: usize, k: usize)
     }
     if 0 < i {
         if count_at(s, place - 1) == k {
-            io::write_all(STDOUT_FILENO, b", ");
+            io::write_all(STDOUT, b", ");
         }
     }
     number_at(s, form::NARROW_ARRAYS_AT + t + form::VALUE_WIDTH * i);
@@ -121,9 +121,9 @@ fn values(s: &[u8], k: usize) {
 
 // List k; one without values is written too.
 fn list(s: &[u8], k: usize) {
-    io::write_all(STDOUT_FILENO, b"{");
+    io::write_all(STDOUT, b"{");
     values(s, k);
-    io::write_all(STDOUT_FILENO, b"}");
+    io::write_all(STDOUT, b"}");
 }
 
 fn categories(s: &[u8]) {
@@ -143,13 +143,13 @@ pub(crate) fn sheet(s: &[u8]) {
     } else if nature == form::WHOLE_LISTS {
         categories(s);
     } else {
-        io::write_all(STDOUT_FILENO, b"nothing");
+        io::write_all(STDOUT, b"nothing");
     }
     let columns = byte_at(s, form::COLUMNS_AT);
     if columns != 1 {
-        io::write_all(STDOUT_FILENO, b" over ");
-        io::print_decimal(STDOUT_FILENO, columns as u64);
-        io::write_all(STDOUT_FILENO, b" columns");
+        io::write_all(STDOUT, b" over ");
+        io::print_decimal(STDOUT, columns as u64);
+        io::write_all(STDOUT, b" columns");
     }
 }
 

@@ -5,9 +5,12 @@
 mod tally; // how many lines come to what
 
 use answers::{Outcome, Stored};
-use libc::STDOUT_FILENO;
 use lines::{Line, Window};
+use std::fs::File;
+use std::os::fd::AsRawFd;
+use std::rt::{Env, Files};
 use tally::Tally;
+use words::STDOUT;
 
 // Says which line could not be read, or what the gate answered where it differs.
 fn report(list: Stored, line: u64, o: Outcome) {
@@ -16,12 +19,12 @@ fn report(list: Stored, line: u64, o: Outcome) {
         Outcome::Agrees(_) => {}
         Outcome::Unread => {
             tally::name(list);
-            io::write_all(STDOUT_FILENO, b"line ");
+            io::write_all(STDOUT, b"line ");
             words::say(line, b" cannot be read\n");
         }
         Outcome::Differs(_, reply) => {
             tally::name(list);
-            io::write_all(STDOUT_FILENO, b"line ");
+            io::write_all(STDOUT, b"line ");
             words::say(line, b" differs: code ");
             words::say(answers::code_of(reply), b", value ");
             words::say(answers::value_of(reply), b"\n");
@@ -48,24 +51,33 @@ fn replay(list: Stored, fd: i32, buf: &mut [u8]) -> Tally {
     tally
 }
 
-// Replays the list that argument k names. A program has no exit status of its own, so what fails stands in the output.
-fn run(list: Stored, k: usize) {
+// Opens the file that argument k names, and says on the standard error why it cannot be.
+fn open(rt: &(impl Env + Eprint + Files<File = File>), k: usize) -> Option<File> {
     let mut path = io::buffer();
-    let length = os::arg(k, &mut path);
-    let fd = os::open_read(&path[..length]);
-    if fd < 0 {
-        os::fail(&path[..length]);
-        tally::name(list);
-        io::write_all(STDOUT_FILENO, b"cannot be opened\n");
-        return;
+    let length = rt.arg(k, &mut path).unwrap_or(0);
+    let name = str::from_utf8(&path[..length]).unwrap_or("");
+    match File::open(rt, name) {
+        Ok(file) => Some(file),
+        Err(e) => {
+            let _ = eprintln!(rt; "{name}: {e}");
+            None
+        }
     }
+}
+
+// Replays the list that argument k names. What fails stands in the output.
+fn run(rt: &(impl Env + Eprint + Files<File = File>), list: Stored, k: usize) {
+    let Some(file) = open(rt, k) else {
+        tally::name(list);
+        io::write_all(STDOUT, b"cannot be opened\n");
+        return;
+    };
     let mut buf = io::large_buffer();
-    let counts = replay(list, fd, &mut buf);
-    libc::close(fd);
+    let counts = replay(list, file.as_raw_fd(), &mut buf);
     counts.print(list);
 }
 
-fn main() {
-    run(Stored::Calls, 1);
-    run(Stored::Plans, 2);
+fn main(rt: HostRuntime) {
+    run(&rt, Stored::Calls, 1);
+    run(&rt, Stored::Plans, 2);
 }

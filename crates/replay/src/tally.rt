@@ -3,7 +3,7 @@ ghost use Rattle.std.specs.Prelude.{◌≡◌, ◌<◌, replicate};
 ghost use Rattle.replay.specs.Counts.{one_more, place_of, Counted};
 
 use answers::{Outcome, Stored, Told};
-use libc::STDOUT_FILENO;
+use words::STDOUT;
 
 // The components are 1 to 10; 0 stands for every other number, and for a plan.
 const PLACES: usize = 11;
@@ -131,8 +131,8 @@ impl Tally {
 // A list's name, which begins what is said of it.
 pub(crate) fn name(list: Stored) {
     match list {
-        Stored::Calls => io::write_all(STDOUT_FILENO, b"single calls: "),
-        Stored::Plans => io::write_all(STDOUT_FILENO, b"plans: "),
+        Stored::Calls => io::write_all(STDOUT, b"single calls: "),
+        Stored::Plans => io::write_all(STDOUT, b"plans: "),
     };
 }
 

@@ -5,14 +5,16 @@ ghost use Rattle.std.specs.Prelude.{◌≡◌};
 ghost use Rattle.words.specs.Signed.{magnitude_of};
 
 use base::Component;
-use libc::STDOUT_FILENO;
+
+// The descriptor of the standard output, to which everything here is written.
+pub const STDOUT: i32 = 1;
 
 // No contract can say what is written; the words stay as they were.
 pub fn say(n: u64, text: &[u8])
     ensures { text.now ≡ text.now }
 {
-    io::print_decimal(STDOUT_FILENO, n);
-    io::write_all(STDOUT_FILENO, text);
+    io::print_decimal(STDOUT, n);
+    io::write_all(STDOUT, text);
 }
 
 // A component's name, and words behind it; any other number is none.
@@ -20,19 +22,19 @@ pub fn component(n: u32, text: &[u8])
     ensures { text.now ≡ text.now }
 {
     match n {
-        Component::ABS => io::write_all(STDOUT_FILENO, b"Abs"),
-        Component::ADD => io::write_all(STDOUT_FILENO, b"Add"),
-        Component::SUBTRACT => io::write_all(STDOUT_FILENO, b"Subtract"),
-        Component::MULTIPLY => io::write_all(STDOUT_FILENO, b"Multiply"),
-        Component::DIVIDE => io::write_all(STDOUT_FILENO, b"Divide"),
-        Component::MODULO => io::write_all(STDOUT_FILENO, b"Modulo"),
-        Component::LOG => io::write_all(STDOUT_FILENO, b"Log"),
-        Component::POWER => io::write_all(STDOUT_FILENO, b"Power"),
-        Component::NEGATIVE => io::write_all(STDOUT_FILENO, b"Negative"),
-        Component::POOL => io::write_all(STDOUT_FILENO, b"Pool"),
-        _ => io::write_all(STDOUT_FILENO, b"no component"),
+        Component::ABS => io::write_all(STDOUT, b"Abs"),
+        Component::ADD => io::write_all(STDOUT, b"Add"),
+        Component::SUBTRACT => io::write_all(STDOUT, b"Subtract"),
+        Component::MULTIPLY => io::write_all(STDOUT, b"Multiply"),
+        Component::DIVIDE => io::write_all(STDOUT, b"Divide"),
+        Component::MODULO => io::write_all(STDOUT, b"Modulo"),
+        Component::LOG => io::write_all(STDOUT, b"Log"),
+        Component::POWER => io::write_all(STDOUT, b"Power"),
+        Component::NEGATIVE => io::write_all(STDOUT, b"Negative"),
+        Component::POOL => io::write_all(STDOUT, b"Pool"),
+        _ => io::write_all(STDOUT, b"no component"),
     };
-    io::write_all(STDOUT_FILENO, text);
+    io::write_all(STDOUT, text);
 }
 
 // The magnitude of the signed number whose two's complement is `v`.
