@@ -98,7 +98,7 @@ loop-again c =
       λ rest.
           whole t rest
           ∙ elim c.if-has.branch [
-              then-has+else-code-ne0 w ↦ leaves_more (in_set a.nodes) n (k t) a.work.now rest h (sym has ∙ w.if-has.true) (sym w.check_leaf-code.ensures ∙ w.if-code-ne0.false)
+            | then-has+else-code-ne0 w ↦ leaves_more (in_set a.nodes) n (k t) a.work.now rest h (sym has ∙ w.if-has.true) (sym w.check_leaf-code.ensures ∙ w.if-code-ne0.false)
             | else-has w ↦ leaves_past (in_set a.nodes) n (k t) a.work.now rest h (sym has ∙ w.if-has.false)
           ],
     )

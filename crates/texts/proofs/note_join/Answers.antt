@@ -14,8 +14,8 @@ grown : (c : goal.Joined-k-store) → let a = c.args in Grows a.z a.k a.store.no
 grown c =
     let a = c.args in
     elim c.if-k-store.branch [
-      then-k-store w ↦ inl (w.if-k-store.true, w.store-is ∙ ap (set a.store.now a.k) (to_z-of_z c.ranges.z))
-    | else-k-store w ↦ inr (w.if-k-store.false, w.store-is)
+      | then-k-store w ↦ inl (w.if-k-store.true, w.store-is ∙ ap (set a.store.now a.k) (to_z-of_z c.ranges.z))
+      | else-k-store w ↦ inr (w.if-k-store.false, w.store-is)
     ]
 
 pub returns-then-store-k : goal.returns-then-store-k
