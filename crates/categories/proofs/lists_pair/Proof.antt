@@ -31,7 +31,6 @@ counted c =
 
 products-into-requires : tie.Need-products_into-requires
 products-into-requires c κs =
-    let n = c.before.before.before.before.before.before in
     let p = c.requires.0 in
     let F = form_of c.args.f in
     let columns = c.args.columns in
@@ -46,7 +45,6 @@ products-into-requires c κs =
 
 returns : tie.Need-returns
 returns c =
-    let d = c.before.before.before.before.before.before.before.before.before in
     let a = c.args in
     let F = form_of a.f in
     let left = a.left.now in

@@ -19,7 +19,6 @@ use Rattle.category_maps.proofs.lists_alone.Tie as tie
 
 maps-into-requires : tie.Need-maps_into-requires
 maps-into-requires c κs =
-    let n = c.before.before.before.before.before in
     let p = c.requires.0 in
     let F = form_of c.args.f in
     let columns = c.args.columns in
@@ -30,7 +29,6 @@ maps-into-requires c κs =
 
 returns : tie.Need-returns
 returns c =
-    let d = c.before.before.before.before.before.before.before.before in
     let a = c.args in
     let F = form_of a.f in
     let left = a.left.now in
