@@ -49,33 +49,24 @@ loop-holds c =
 
 column-texts-requires : tie.Need-column_texts-l-requires invariant-loop decreases-loop
 column-texts-requires c κs =
-    let t = c.before in
     let p = c.requires in
     (p.0.0.lefts, λ h. omega (arith, p.0.1 h, c.loop-j-test.true), c.loop-j.invariant.1 ∙ p.1.lefts)
 
 column-texts-requires-2 : tie.Need-column_texts-r-requires invariant-loop decreases-loop
 column-texts-requires-2 c κs =
-    let t = c.before.before.before.before in
     let p = c.requires in
     (p.0.0.rights, λ h. omega (arith, p.0.2 h, c.loop-j-test.true), c.loop-j.invariant.2 ∙ p.1.rights)
 
--- the store is as long as a sheet has room for categories
-results_size : (c : tie.At-loop-j invariant-loop decreases-loop) → length c.loop-j.store ≡ (form_of c.args.f).category_limit
-results_size c = c.loop-j.invariant.3 ∙ c.requires.1.results
-
 note-column-requires : tie.Need-note_column-k-requires invariant-loop decreases-loop
 note-column-requires c κs =
-    let right = c.before.before.before.before in
-    let left = right.before.before.before in
-    let t = left.before.before in
-    let o = t.before in
     let p = c.requires.0 in
     let j = c.loop-j.j in
+    let results = c.loop-j.invariant.3 ∙ c.requires.1.results in
     let b = laid c.args.f in (
       (
         starts_room c.column_texts-l.ensures,
         starts_room c.column_texts-r.ensures,
-        omega (arith, results_size c.before.before.before.before.before.before.before.before, (small c.args.f).categories),
+        omega (arith, results, (small c.args.f).categories),
       ),
       (
         store_lies b p.0.lefts j (λ h. omega (arith, p.1 h, c.loop-j-test.true)) c.column_texts-l.ensures,
@@ -97,12 +88,11 @@ text_arrays a = record { numbered = a.numbered; valued = omega (arith, a.valued)
 
 append-columns-requires : tie.Need-append_columns-t-requires invariant-loop decreases-loop
 append-columns-requires c κs =
-    let e = c.before.before.before in
-    let noted = e.before.before in
-    let p = c.requires in (
+    let p = c.requires in
+    let results = c.loop-j.invariant.3 ∙ p.1.results in (
       (
-        omega (arith, c.note_column-k.ensures.0, results_size c.before.before.before.before.before.before.before.before.before.before.before.before.before),
-        c.note_column-k.auto.store ∙ results_size c.before.before.before.before.before.before.before.before.before.before.before.before.before,
+        omega (arith, c.note_column-k.ensures.0, results),
+        c.note_column-k.auto.store ∙ results,
         omega (arith, c.column_end-end.ensures.0),
         omega (arith, c.column_end-end.ensures.1, p.0.3),
         c.loop-j.invariant.0.columns.tally.bound,
@@ -113,10 +103,6 @@ append-columns-requires c κs =
 loop-again : tie.Need-loop-j-preserved invariant-loop decreases-loop
 loop-again c =
     let add = c.append_columns-t in
-    let e = c.before.before.before.before.before.before.before.before in
-    let noted = e.before.before in
-    let right = noted.before.before.before.before.before in
-    let left = right.before.before.before in
     let a = c.args in
     let F = form_of a.f in
     let same = codes_alike a.joins F a.left.now a.right.now c.loop-j.j c.column_end-end.result c.column_end-end.ensures.2 c.column_texts-l.ensures c.column_texts-r.ensures in (
@@ -182,26 +168,25 @@ lay-texts-requires c κs =
     let l = c.before.before.before in
     let o = c.loop-j in
     let few : o.t ≤ (form_of c.args.f).category_limit = omega (arith, c.if-category_limit-t.false, c.category_limit.ensures) in
-    let e = standing c.before.before.before few in
+    let e = standing l few in
     let room : 8 * (form_of c.args.f).category_limit + (form_of c.args.f).text_limit ≤ length o.values = omega (arith, c.requires.1.valued, o.invariant.0.second) in
-    ((c.requires.0.3, few, room), codes_stand (flatten (all_codes c.before.before.before)) (lying c.before.before.before) o.t e.1 o.values (omega arith) e.0)
+    ((c.requires.0.3, few, room), codes_stand (flatten (all_codes l)) (lying l) o.t e.1 o.values (omega arith) e.0)
 
 returns-2 : tie.Need-returns invariant-loop decreases-loop
 returns-2 c =
     let lay = c.lay_texts in
-    let if = c.before.before.before.before in
-    let l = if.before.before in
+    let l = c.before.before.before.before.before.before in
     let o = c.loop-j in
     let a = c.args in
     let F = form_of a.f in
     let text = join_at F a.left.now a.right.now in
     let few : o.t ≤ F.category_limit = omega (arith, c.if-category_limit-t.false, c.category_limit.ensures) in
-    let all = tallied c.before.before.before.before.before.before in
-    let e = standing c.before.before.before.before.before.before few in
-    let laid = lay.ensures (flatten (all_codes c.before.before.before.before.before.before)) e.0 (codes_fit (flatten (all_codes c.before.before.before.before.before.before)) (lying c.before.before.before.before.before.before) o.t e.1) in
+    let all = tallied l in
+    let e = standing l few in
+    let laid = lay.ensures (flatten (all_codes l)) e.0 (codes_fit (flatten (all_codes l)) (lying l) o.t e.1) in
     let size = sym (list_from_length (column_codes a.joins F a.left.now a.right.now) a.n 0) in (
-      texts_laid text (all_codes c.before.before.before.before.before.before) few laid o.numbers size (all.count few) (all.first few) ∙ spelled c.before.before.before.before.before.before,
-      laid_within text (all_codes c.before.before.before.before.before.before) few laid o.numbers c.requires.0.3 (omega (arith, c.requires.1.numbered, o.invariant.0.first)) (omega (arith, c.requires.1.valued, o.invariant.0.second, lay.auto.values)),
+      texts_laid text (all_codes l) few laid o.numbers size (all.count few) (all.first few) ∙ spelled l,
+      laid_within text (all_codes l) few laid o.numbers c.requires.0.3 (omega (arith, c.requires.1.numbered, o.invariant.0.first)) (omega (arith, c.requires.1.valued, o.invariant.0.second, lay.auto.values)),
     )
 
 pub texts_into_spec : {M : Type 1} → statement M

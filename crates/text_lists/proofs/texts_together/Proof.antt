@@ -49,14 +49,11 @@ reached c =
 
 texts-into-requires : tie.Need-texts_into-requires
 texts-into-requires c κs =
-    let n = c.before.before.before.before.before in
     let w = reached c.before.before.before.before.before in
     ((c.requires.0.0, w.0, w.1, w.2), c.requires.1)
 
 returns : tie.Need-returns
 returns c =
-    let d = c.before.before.before.before.before.before.before in
-    let n = d.before.before.before.before.before.before in
     let F = form_of c.args.f in
     let w = reached c.before.before.before.before.before.before.before.before.before.before.before.before.before in
     let e = together_joined (laid c.args.f) c.requires.0.0 c.args.joins c.args.columns c.lesser-n.result (counted c.before.before.before.before.before.before.before.before.before.before.before.before.before) w.0 w.1 in

@@ -29,7 +29,6 @@ counted c =
 
 unions-into-requires : tie.Need-unions_into-requires
 unions-into-requires c κs =
-    let n = c.before.before.before.before.before.before.before in
     let p = c.requires.0 in
     let F = form_of c.args.f in
     let columns = c.args.columns in
@@ -44,9 +43,6 @@ unions-into-requires c κs =
 
 returns : tie.Need-returns
 returns c =
-    let d = c.before.before.before.before.before.before.before.before.before in
-    let k = d.before.before.before.before.before.before.before in
-    let n = k.before in
     let a = c.args in
     let F = form_of a.f in
     let columns = each_from (union_of eq_z (lists F a.left.now as_whole) (lists F a.right.now as_whole)) c.lesser-n.result 0 in

@@ -51,7 +51,6 @@ note-result-requires c κs =
 loop-again : tie.Need-loop-i-preserved invariant-loop decreases-loop
 loop-again c =
     let noting = c.note_result-count in
-    let t = c.before.before.before.before.before.before.before in
     let l = c.loop-i in
     let values = c.args.values.now in
     let v = to_z w64 (of_z w64 (get_or values l.i (pos 0))) in

@@ -45,14 +45,11 @@ loop-holds c =
 
 column-list-requires : tie.Need-column_list-l-requires invariant-loop decreases-loop
 column-list-requires c κs =
-    let t = c.before.before in
     let p = c.requires in
     (p.0.0, λ h. omega (arith, p.0.1 h, c.loop-j-test.true), omega (arith, p.1.1.1.0.lefts, c.loop-j.invariant.1), c.loop-j.invariant.4 ∙ p.1.1.1.0.hinted)
 
 column-list-requires-2 : tie.Need-column_list-r-requires invariant-loop decreases-loop
 column-list-requires-2 c κs =
-    let left = c.before.before.before.before.before in
-    let t = left.before.before.before in
     let p = c.requires in (
       p.1.0.0,
       λ h. omega (arith, p.1.0.1 h, c.loop-j-test.true),
@@ -60,16 +57,10 @@ column-list-requires-2 c κs =
       c.column_list-l.auto.hints ∙ c.loop-j.invariant.4 ∙ p.1.1.1.0.hinted,
     )
 
--- the store is as long as a sheet has room for categories
-results_size : (c : tie.At-loop-j invariant-loop decreases-loop) → length c.loop-j.store ≡ (form_of c.args.f).category_limit
-results_size c = c.loop-j.invariant.3 ∙ c.requires.1.1.1.0.results
-
 note-both-requires : tie.Need-note_both-k-requires invariant-loop decreases-loop
 note-both-requires c κs =
-    let right = c.before.before.before.before.before.before.before in
-    let left = right.before.before.before.before.before.before in
-    let o = left.before.before.before.before in (
-      omega (arith, results_size c.before.before.before.before.before.before.before.before.before.before.before.before.before.before.before, (small c.args.f).categories),
+    let results = c.loop-j.invariant.3 ∙ c.requires.1.1.1.0.results in (
+      omega (arith, results, (small c.args.f).categories),
       begins_room c.column_list-l.ensures,
       begins_room c.column_list-r.ensures,
       c.column_list-r.auto.hints ∙ c.column_list-l.auto.hints ∙ c.loop-j.invariant.4 ∙ c.requires.1.1.1.0.hinted,
@@ -84,12 +75,11 @@ column-end-requires c κs =
 
 append-columns-requires : tie.Need-append_columns-t-requires invariant-loop decreases-loop
 append-columns-requires c κs =
-    let e = c.before.before.before in
-    let noted = e.before.before.before.before in
-    let p = c.requires.1.1 in (
+    let p = c.requires.1.1 in
+    let results = c.loop-j.invariant.3 ∙ p.1.0.results in (
       (
-        omega (arith, c.note_both-k.ensures.0, results_size c.before.before.before.before.before.before.before.before.before.before.before.before.before.before.before.before.before.before.before.before.before.before),
-        c.note_both-k.auto.store ∙ results_size c.before.before.before.before.before.before.before.before.before.before.before.before.before.before.before.before.before.before.before.before.before.before,
+        omega (arith, c.note_both-k.ensures.0, results),
+        c.note_both-k.auto.store ∙ results,
         omega (arith, c.column_end-end.ensures.0),
         omega (arith, c.column_end-end.ensures.1, p.0),
         c.loop-j.invariant.0.columns.tally.bound,
@@ -101,10 +91,6 @@ loop-again : tie.Need-loop-j-preserved invariant-loop decreases-loop
 unfolding union
 loop-again c =
     let add = c.append_columns-t in
-    let e = c.before.before.before.before.before.before.before.before in
-    let noted = e.before.before.before.before in
-    let right = noted.before.before.before.before.before.before.before.before in
-    let left = right.before.before.before.before.before.before in
     let a = c.args in
     let column = sym (ap₂ (union eq_z) c.column_list-l.ensures.start c.column_list-r.ensures.start) in
     let same = alike (λ l m. union eq_z (firsts eq_z l) (firsts eq_z m)) (form_of a.f) a.left.now a.right.now as_whole c.loop-j.j c.column_end-end.result c.column_end-end.ensures.2 column in (
