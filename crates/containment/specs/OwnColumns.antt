@@ -52,7 +52,7 @@ pub record Outside (sheet : ℕ → Sheet) : Type 0 where
   pub with_categories : is_lists (sheet 0).nature ≡ true
   pub other_columns : (sheet 2).fields.columns ≡ some 2
   -- .. and of the step
-  pub operand_columns_lem : ColumnsMatch (sheet 0) (sheet 1)
+  pub operand_columns : ColumnsMatch (sheet 0) (sheet 1)
   pub component : component_of (component_number sum_plan 2) ≡ N.Is C.Add
   -- the row is inside, and column 1 of node 2 has a result that does not keep to its sheet
   pub inside : Inside sum_plan sheet sum_row

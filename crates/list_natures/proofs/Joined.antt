@@ -79,7 +79,7 @@ module _ (F : Form) (left right : List ℕ) (x : byte_at F nature_at left ≡ te
 
 -- a sheet of texts was read
 texts_read : {F : Form} {s : List ℕ} → Texts F s → holds_texts F s ≡ true
-texts_read t = texts_held (record { sizes = t.listed.passed; fields = t.fields }) t.is-text
+texts_read t = texts_held (record { sizes = t.listed.passed; fields = t.fields }) t.is_text
 
 pub joins_both : (F : Form) (left right : List ℕ) → Joining F left right → (c : Component) → joins c ≡ true → joins_texts (family_of c) F left right ≡ true
 joins_both F left right j c e = texts_joined F left right (inl (joins_pair c e)) (texts_read j.lefts) (texts_read j.rights)

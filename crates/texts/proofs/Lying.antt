@@ -56,12 +56,12 @@ module _ {F : Form} {s : List ℕ} where
   number_lies laid l v h = let b = ends_small laid l v h in subst (PartLies F s) (sym (part_back v b.0 b.1)) (value_lies laid l v h)
 
   pub part_lies : Laid F → Texts F s → (i : ℕ) → i < category_count F s → PartLies F s (part_of (value F s i))
-  part_lies laid t i h = value_lies laid t.listed (value F s i) (text_within_lem F s t.fields t.is_text_lem i h)
+  part_lies laid t i h = value_lies laid t.listed (value F s i) (text_within_lem F s t.fields t.is_text i h)
 
 -- the same, of the sizes that were read
 module _ {F : Form} {s : List ℕ} (laid : Laid F) (texts : Texts F s) {g n t : ℕ} (fit : ListsFit F s g n t) (i : ℕ) (h : i < t) where
   read_ends : start_in (category_at F s g t i) + length_in (category_at F s g t i) ≤ area_size F s
-  read_ends = rw (fit.groups, fit.categories) (text_within_lem F s texts.fields texts.is_text_lem i (omega (arith, h, fit.categories)))
+  read_ends = rw (fit.groups, fit.categories) (text_within_lem F s texts.fields texts.is_text i (omega (arith, h, fit.categories)))
 
   pub read_small : (start_in (category_at F s g t i) < 2 ^ 16) × (length_in (category_at F s g t i) < 2 ^ 16)
   read_small = ends_small laid texts.listed (category_at F s g t i) read_ends
@@ -98,7 +98,7 @@ module _ {F : Form} {s : List ℕ} (laid : Laid F) (t : Texts F s) where
       let g = group_count F s in
       let n = category_count F s in
       let list = lists_from F s as_part j (lists_fit (passed F s t.listed.passed) t.listed.no_range) h in
-      list_all F s as_part (λ (x : ℤ). PartLies F s (whole_bits x)) g n j (n - 0) 0 (λ i l. number_lies laid t.listed (value F s i) (text_within_lem F s t.fields t.is_text_lem i (omega (arith, l)))) z (subst (Memᴰ z) list m)
+      list_all F s as_part (λ (x : ℤ). PartLies F s (whole_bits x)) g n j (n - 0) 0 (λ i l. number_lies laid t.listed (value F s i) (text_within_lem F s t.fields t.is_text i (omega (arith, l)))) z (subst (Memᴰ z) list m)
 
   pub parts_lie : (j : ℕ) → Reaches F s j → (z : ℤ) → Memᴰ z (parts_of F s j) → PartLies F s (whole_bits z)
   parts_lie j reach z m = go (eqb (list_count F s) 1) refl

@@ -12,7 +12,7 @@ use Rattle.texts.specs.Joins.{as_part, JoinLies, same_join}
 pub record Texts (F : Form) (s : List ℕ) : Type 0 where
   pub listed : Listed F s
   pub fields : fields_fail F s ≡ false
-  pub is_text_lem : byte_at F nature_at s ≡ text_lists_nature
+  pub is_text : byte_at F nature_at s ≡ text_lists_nature
 
 -- the numbers xs, m of them, stand at the start of a store
 pub record Starts (xs : List ℤ) (m : ℕ) (store : List ℤ) : Type 0 where

@@ -16,7 +16,7 @@ returns c =
     let F = form_of a.f in
     let without = sym c.joins.ensures ∙ c.if-not-joins.true in
     let j = c.requires.0 in
-    let e = no_join F a.left.now a.right.now j.lefts.is-text j.rights.is-text a.c a.data_type a.columns without in
+    let e = no_join F a.left.now a.right.now j.lefts.is_text j.rights.is_text a.c a.data_type a.columns without in
     (ap (in_writing F) (sym e), tt)
 
 texts-together-requires : tie.Need-texts_together-requires
@@ -32,7 +32,7 @@ returns-2 c =
     let call = c.texts_together.ensures in
     let has = sym c.joins.ensures ∙ c.if-not-joins.false in
     let j = c.requires.0 in
-    let e = join F a.left.now a.right.now j.lefts.is-text j.rights.is-text a.c a.data_type a.columns has in
+    let e = join F a.left.now a.right.now j.lefts.is_text j.rights.is_text a.c a.data_type a.columns has in
     (call.0 ∙ ap (in_writing F) (sym e), rw (texts_room_lem (family_of a.c) F a.left.now a.right.now (joins_both F a.left.now a.right.now j a.c has)) call.1)
 
 pub joined_texts_spec : {M : Type 1} → statement M

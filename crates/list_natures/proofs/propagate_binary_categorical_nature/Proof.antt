@@ -45,8 +45,8 @@ joined-texts-requires c κs =
     let y = p.right_fine in
     let t = sym c.nature_of-x.ensures ∙ c.if-x-eq-TEXT_LISTS.true in
     let j : Joining F a.left.now a.right.now = record {
-      lefts = record { listed = fine_listed x; fields = x.lists.read.fields; is_text_lem = t };
-      rights = record { listed = fine_listed y; fields = y.lists.read.fields; is_text_lem = sym p.same ∙ t };
+      lefts = record { listed = fine_listed x; fields = x.lists.read.fields; is_text = t };
+      rights = record { listed = fine_listed y; fields = y.lists.read.fields; is_text = sym p.same ∙ t };
     } in
     (j, c.requires.0.2, λ h. c.requires.1.texts (joins_both F a.left.now a.right.now j a.c h))
 

@@ -54,8 +54,8 @@ texts-together-requires c κs =
     let y = p.right_fine in (
       (
         record {
-          lefts = record { listed = fine_listed x; fields = x.lists.read.fields; is_text_lem = text c.before.before.before.before.before };
-          rights = record { listed = fine_listed y; fields = y.lists.read.fields; is_text_lem = sym p.same ∙ text c.before.before.before.before.before };
+          lefts = record { listed = fine_listed x; fields = x.lists.read.fields; is_text = text c.before.before.before.before.before };
+          rights = record { listed = fine_listed y; fields = y.lists.read.fields; is_text = sym p.same ∙ text c.before.before.before.before.before };
         },
         ready.some_column,
         ready.within,
