@@ -59,7 +59,7 @@ module _ {m : Family} {F : Form} {left right hints first second scratch : List �
     record {
       first_room = rooms.first_room;
       second_room = rooms.second_room;
-      sheet_room = sheet_fits F (joins_texts m F left right) (joins_lists m F left right) rooms.sheet_room (λ e. (lists e).sheet-room) (λ e. (texts e).sheet-room);
+      sheet_room = sheet_fits F (joins_texts m F left right) (joins_lists m F left right) rooms.sheet_room (λ e. (lists e).sheet_room) (λ e. (texts e).sheet_room);
     },
     record { stores = λ e. (lists e).stores; arrays = λ e. (lists e).arrays; texts = λ e. (texts e).stores },
   )

@@ -114,7 +114,7 @@ returns-3 c =
     let r = nature_in F right in
     let united = c.lists_united in
     let e = union_joins a.columns l r (none c.before.before.before.before.before.before.before.before.before.before.before.before.before.before.before.before.before.before) in
-    let h = united_textless F a.columns l r (λ z. other c.before.before.before.before.before.before.before.before.before.before.before.before.before.before.before.before (sym (number_of F left (pass c.before.before.before.before.before.before.before.before.before.before.before.before.before.before.before.before.before.before).left-fine.lists.read) ∙ z)) in
+    let h = united_textless F a.columns l r (λ z. other c.before.before.before.before.before.before.before.before.before.before.before.before.before.before.before.before (sym (number_of F left (pass c.before.before.before.before.before.before.before.before.before.before.before.before.before.before.before.before.before.before).left_fine.lists.read) ∙ z)) in
     let room = subst (λ (n : ℕ). n ≤ nature_room Fam.Pool F left right) (lists_room_lem Fam.Pool F left right (joins c.before.before.before.before.before.before.before.before.before.before.before.before.before.before.before.before)) (nature_room_lem (laid a.f) Fam.Pool left right) in
     (united.ensures.0 ∙ ap (in_writing F) (h ∙ ap (λ (g : Result Nature). and_then g (kept F)) (sym e)), wider F _ _ room united.result united.ensures.1)
 

@@ -88,12 +88,12 @@ returns-4 c =
     let known = last.before.before in
     let nature = known.before.before.before.before.before.before.before.before.before.before.before in
     let a = c.args in
-    let back : to_z w64 (of_z w64 c.Node-at.result) ≡ c.Node-at.result = search rules in (
+    let back : to_z w64 (of_z w64 c.node_at-node.result) ≡ c.node_at-node.result = search rules in (
       copy_written (form_of a.f) a.c a.left.now a.right.now c.copy_code-k.ensures
           c.read_head-l.ensures c.columns_of-columns.ensures c.if-k-ne0.false
           (rw c.in-Nature.is at c.propagate_binary_nature-derived.ensures.0)
           c.last_code-m.ensures c.if-m-ne0.false c.read_head-r.ensures c.copy_head-h.ensures
-          (rw (back, c.Node-at.ensures) at c.put_pair.ensures.1),
+          (rw (back, c.node_at-node.ensures) at c.put_pair.ensures.1),
       c.put_pair.ensures.0,
     )
 

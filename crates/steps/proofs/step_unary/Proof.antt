@@ -57,13 +57,13 @@ returns-3 c =
     let known = node.before.before.before.before.before in
     let nature = known.before.before.before.before.before.before.before.before.before.before in
     let a = c.args in
-    let back : to_z w64 (of_z w64 c.Node-at.result) ≡ c.Node-at.result = search rules in
+    let back : to_z w64 (of_z w64 c.node_at.result) ≡ c.node_at.result = search rules in
     let wide = nature_room_lem (laid a.f) (family_of a.c) a.left.now a.left.now in
     let placed = rw c.in-Nature.is at c.propagate_unary_nature-derived.ensures.1 in (
       unary_written (form_of a.f) a.c a.left.now c.read_head-h.ensures c.unary_code-k.ensures c.columns_of-columns.ensures
           c.if-k-ne0.false
           (rw c.in-Nature.is at c.propagate_unary_nature-derived.ensures.0)
-          (rw (back, c.Node-at.ensures) at c.put_sheet.ensures.front),
+          (rw (back, c.node_at.ensures) at c.put_sheet.ensures.front),
       bounded a.left.now placed c.requires.0.0.sizes (omega (arith, wide, c.requires.1.0.sheet_room)) c.put_sheet.ensures.next,
     )
 
