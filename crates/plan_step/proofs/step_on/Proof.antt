@@ -25,47 +25,43 @@ returns c =
 
 -- both operands' sheets are found
 module _ (e : tie.After-sheet_end-right_end) where
-  abbrev start : tie.Start
-  start = e.before.before.before.before.before.before.before.before.before.before.before.before.before.before.before.before
-
   abbrev plan : List ℕ
-  plan = start.args.plan.now
+  plan = e.args.plan.now
 
   abbrev work : List ℕ
-  work = start.args.work.now
+  work = e.args.work.now
 
   abbrev part : ℕ → ℕ → List ℕ
   part j end = take (end - slot_at narrow j) (drop (slot_at narrow j) work)
 
   abbrev left_part_lem : List ℕ
-  left_part_lem = part e.before.before.before.before.left-operand.result e.before.sheet-end.result
+  left_part_lem = part e.left_operand-left.result e.sheet_end-left_end.result
 
   abbrev right_part_lem : List ℕ
-  right_part_lem = part e.before.before.before.right_operand.result e.sheet-end2.result
+  right_part_lem = part e.right_operand-right.result e.sheet_end-right_end.result
 
   abbrev family : Family
-  family = family_of e.before.before.before.before.before.before.numbered.given.0.0
+  family = family_of e.in-Is.c
 
-  left_sheet : left_part_lem ≡ sheet_in narrow (left_of plan start.args.k) work
-  left_sheet = e.before.sheet-end.ensures.bytes ∙ ap (λ (j : ℕ). sheet_in narrow j work) e.before.before.before.before.left-operand.ensures
+  left_sheet : left_part_lem ≡ sheet_in narrow (left_of plan e.args.k) work
+  left_sheet = e.sheet_end-left_end.ensures.bytes ∙ ap (λ (j : ℕ). sheet_in narrow j work) e.left_operand-left.ensures
 
-  right_sheet : right_part_lem ≡ sheet_in narrow (right_of plan start.args.k) work
-  right_sheet = e.sheet-end2.ensures.bytes ∙ ap (λ (j : ℕ). sheet_in narrow j work) e.before.before.before.right_operand.ensures
+  right_sheet : right_part_lem ≡ sheet_in narrow (right_of plan e.args.k) work
+  right_sheet = e.sheet_end-right_end.ensures.bytes ∙ ap (λ (j : ℕ). sheet_in narrow j work) e.right_operand-right.ensures
 
-  held : holds_categories narrow left_part_lem ≡ true → holds_categories narrow (sheet_in narrow (left_of plan start.args.k) work) ≡ true
+  held : holds_categories narrow left_part_lem ≡ true → holds_categories narrow (sheet_in narrow (left_of plan e.args.k) work) ≡ true
   held h = subst (λ (l : List ℕ). holds_categories narrow l ≡ true) left_sheet h
 
 step-requires : tie.Need-step-put-requires
 step-requires c κs =
     let e = c.before.before.before.before.before.before.before.before.before in
-    let s = start e in
-    step_lent s.requires.0.1
-    (λ j. (s.requires.1 (held e (left_joins (family e) narrow (left_part_lem e) (right_part_lem e) j))).lists)
-    (λ j. (s.requires.1 (held e (left_texts (family e) narrow (left_part_lem e) (right_part_lem e) j))).texts)
+    step_lent c.requires.0.1
+    (λ j. (c.requires.1 (held e (left_joins (family e) narrow (left_part_lem e) (right_part_lem e) j))).lists)
+    (λ j. (c.requires.1 (held e (left_texts (family e) narrow (left_part_lem e) (right_part_lem e) j))).texts)
 
 -- its own slot begins within the work buffer
 sub-deliver-sheet : tie.Need-slice_bounds-deliver_sheet-count
-sub-deliver-sheet c = let e = c.before.before.before.before.before.before.before.before.before.before.before.before.before.before.before.before.before.before.before.before.before.before in omega (arith, (start e).requires.0.0.room)
+sub-deliver-sheet c = omega (arith, c.requires.0.0.room)
 
 deliver-sheet-requires : tie.Need-deliver_sheet-requires
 deliver-sheet-requires c κs =
@@ -73,10 +69,8 @@ deliver-sheet-requires c κs =
 
 returns-2 : tie.Need-returns
 returns-2 c =
-    let done = c.before.before in
-    let taken = done.before.before.before.before.before.before.before.before.before.before.before.before.before.before in
-    let e = taken.before.before.before.before.before.before.before.before.before.before in
-    let a = (start e).args in
+    let e = c.before.before.before.before.before.before.before.before.before.before.before.before.before.before.before.before.before.before.before.before.before.before.before.before.before in
+    let a = c.args in
     let listed = ap component_of (sym c.component_number.ensures) ∙ sym c.from_number-numbered.ensures ∙ c.in-Is.is in
     let derived = c.step-put.ensures.0 ∙ ap₂ (step narrow c.in-Is.c a.k) (left_sheet e) (right_sheet e) in
     rw (part_back (slot_at narrow a.k) (work e))
