@@ -22,6 +22,7 @@ use Rattle.plan_form.proofs.FormLaws.{planned}
 use Rattle.plan.proofs.Taken.{steppable, walk_past, walk_more, walk_refused}
 use Rattle.plan_leaves.proofs.Leaves.{some_code, walk_none}
 use Rattle.plan.proofs.take_steps.Statement.{statement}
+use Rattle.plan.proofs.take_steps.Lts.{then-not-lent+else-may_use_stores, else-not-lent}
 use Rattle.plan.proofs.take_steps.Tie as tie
 
 abbrev invariant-loop : tie.invariant-loop-k
@@ -50,15 +51,15 @@ module _ (t : tie.At-loop-k invariant-loop decreases-loop) where
   abbrev plan : List ℕ
   plan = start.args.plan.now
 
-  rooms : Rooms narrow t.loop.first t.loop.second t.loop.scratch
+  rooms : Rooms narrow t.loop-k.first t.loop-k.second t.loop-k.scratch
   rooms =
-      let i = t.loop.inv in
+      let i = t.loop-k.invariant in
       let b = start.requires.1.0 in
       record { first_room = omega arith; second_room = omega arith; sheet_room = omega arith }
 
-  large : start.args.lent ≡ true → Large narrow t.loop.us t.loop.bs t.loop.store t.loop.hints t.loop.first t.loop.second t.loop.scratch
+  large : start.args.lent ≡ true → Large narrow t.loop-k.us t.loop-k.bs t.loop-k.store t.loop-k.hints t.loop-k.first t.loop-k.second t.loop-k.scratch
   large e =
-      let i = t.loop.inv in
+      let i = t.loop-k.invariant in
       let l = start.requires.1.1 e in
       let s = l.lists.stores in
       let a = l.lists.arrays in
@@ -83,17 +84,17 @@ module _ (c : tie.In-loop-k invariant-loop decreases-loop) where
   abbrev head : tie.At-loop-k invariant-loop decreases-loop
   head = c.before
 
-  further : head.loop.k < node_count (plan head)
+  further : head.loop-k.k < node_count (plan head)
   further = omega arith
 
-  few : head.loop.k < node_limit
+  few : head.loop-k.k < node_limit
   few = let f = planned (plan head) (start head).requires.0.0.formed in let h = further in omega arith
 
-  turn : Steppable (plan head) head.loop.k head.loop.work
+  turn : Steppable (plan head) head.loop-k.k head.loop-k.work
   turn =
-      let i = head.loop.inv in
+      let i = head.loop-k.invariant in
       let w = (start head).requires.0.0 in
-      steppable head.loop.k (record { formed = w.formed; room = omega (arith, w.room) }) i.0 further
+      steppable head.loop-k.k (record { formed = w.formed; room = omega (arith, w.room) }) i.0 further
 
 -- k is in the set
 here : (c : tie.Else-not-has invariant-loop decreases-loop) → in_set (start c.before.before.before).args.nodes c.loop-k.k ≡ true
@@ -104,7 +105,10 @@ lent : (c : tie.Joined-not-lent invariant-loop decreases-loop) → let t = c.bef
     → Large narrow c.loop-k.us c.loop-k.bs c.loop-k.store c.loop-k.hints c.loop-k.first c.loop-k.second c.loop-k.scratch
 lent c h =
     let t = c.before.before.before.before in
-    ⊎_elim (λ w. absurd (subst T (sym h ∙ sym w.2.ensures ∙ w.3.left) tt)) (λ w. large t (not-false (start t).args.lent w.left)) c.if-not-lent.branch
+    elim c.if-not-lent.branch [
+        then-not-lent+else-may_use_stores w ↦ absurd (subst T (sym h ∙ sym w.may_use_stores.ensures ∙ w.if-may_use_stores.false) tt)
+      | else-not-lent w ↦ large t w.if-not-lent.false
+    ]
 
 node-count-requires : tie.Need-node_count-count-requires invariant-loop decreases-loop
 node-count-requires c κs = (planned c.args.plan.now c.requires.0.0.formed).sizes
@@ -137,7 +141,7 @@ loop-again c =
     )
 
 may-use-stores-requires : tie.Need-may_use_stores-requires invariant-loop decreases-loop
-may-use-stores-requires c κs = turn c.before.before.before.before
+may-use-stores-requires c κs = turn c.before.before.before
 
 returns : tie.Need-returns-then-may_use_stores invariant-loop decreases-loop
 returns c =
@@ -159,7 +163,7 @@ returns-2 c =
     let p = plan i.before in
     let f = planned p (start i.before).requires.0.0.formed in
     let h = further i in
-    (sym (l.invariant.2 ∙ walk_refused (in_set (start i.before).args.nodes) p (node_count p) l.k l.work h t c.step_on-put.result _ c.step_on-put.ensures c.Code-in.ensures c.if-code-ne0.true), (some_code _ c.if-code-ne0.true, omega arith))
+    (sym (l.invariant.2 ∙ walk_refused (in_set (start i.before).args.nodes) p (node_count p) l.k l.work h t c.step_on-put.result _ c.step_on-put.ensures c.code_in-code.ensures c.if-code-ne0.true), (some_code _ c.if-code-ne0.true, omega arith))
 
 loop-again-2 : tie.Need-loop-k-preserved invariant-loop decreases-loop
 loop-again-2 c =
@@ -170,18 +174,18 @@ loop-again-2 c =
     let l = c.loop-k in
     let p = plan i.before in
     let h = further i in
-    let kept = c.step_on-put.auto.1.1 in (
+    let kept = c.step_on-put.auto in (
       omega arith,
       omega arith,
-      l.invariant.2 ∙ walk_more (in_set (start i.before).args.nodes) p (node_count p) l.k l.work h t c.step_on-put.result _ c.step_on-put.ensures (sym c.Code-in.ensures ∙ c.if-code-ne0.false),
-      kept.0 ∙ l.invariant.3,
-      kept.1.0 ∙ l.invariant.4,
-      kept.1.1.0 ∙ l.invariant.5,
-      kept.1.1.1.0 ∙ l.invariant.6,
-      kept.1.1.1.1.0 ∙ l.invariant.7,
-      kept.1.1.1.1.1.0 ∙ l.invariant.8,
-      kept.1.1.1.1.1.1.0 ∙ l.invariant.9,
-      kept.1.1.1.1.1.1.1.0 ∙ l.invariant.10,
+      l.invariant.2 ∙ walk_more (in_set (start i.before).args.nodes) p (node_count p) l.k l.work h t c.step_on-put.result _ c.step_on-put.ensures (sym c.code_in-code.ensures ∙ c.if-code-ne0.false),
+      kept.work ∙ l.invariant.3,
+      kept.first ∙ l.invariant.4,
+      kept.second ∙ l.invariant.5,
+      kept.us ∙ l.invariant.6,
+      kept.bs ∙ l.invariant.7,
+      kept.store ∙ l.invariant.8,
+      kept.hints ∙ l.invariant.9,
+      kept.scratch ∙ l.invariant.10,
     )
 
 returns-3 : tie.Need-returns invariant-loop decreases-loop

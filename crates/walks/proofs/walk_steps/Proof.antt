@@ -20,38 +20,21 @@ take-steps-requires c κs =
     let f = planned c.args.plan.now r.0.formed in
     ((r.0, omega arith, omega arith), (search rules, λ e. absurd (subst T (sym e) tt)))
 
--- what the steps up to the first that may use the category stores come to
-module _ (c : tie.After-take_steps-ranges) where
-  abbrev start : tie.Start
-  start = c.before.before.before.before.before.before.before.before.before.before.before
-
-  abbrev p : List ℕ
-  p = start.args.plan.now
-
-  abbrev left : List ℕ
-  left = c.take_steps-ranges.last.1.1.1.1.0
-
 returns : tie.Need-returns-in_default
 returns c =
-    let done = c.before.before.before.before.before.before.before.before.before.before in
-    (c.take_steps-ranges.ensures.0, reaches_ended (p done) false c.take_steps-ranges.result c.in_default.in_default-own.keys2 c.take_steps-ranges.ensures.1)
+    (c.take_steps-ranges.ensures.0, reaches_ended c.args.plan.now false c.take_steps-ranges.result c.in_default.in_default-own.keys2 c.take_steps-ranges.ensures.1)
 
 take-steps-requires-2 : tie.Need-take_steps-requires
 take-steps-requires-2 c κs =
-    let told = c.before.before.before.before.before.before.before.before.before in
-    let done = told.before.before.before.before.before.before.before.before.before.before.before in
-    let r = (start done).requires in
-    let n = subst (Reaches false (p done)) c.ranges.given.1 c.take_steps-ranges.ensures.1 in
-    ((record { formed = r.0.formed; room = omega (arith, r.0.room, c.take_steps-ranges.kept) }, n.1, n.2), (search rules, λ e. record { lists = record { stores = search rules; arrays = search rules; sheet_room = search rules }; texts = record { stores = search rules; sheet_room = search rules } }))
+    let r = c.requires in
+    let n = subst (Reaches false c.args.plan.now) c.in-Next.is c.take_steps-ranges.ensures.1 in
+    ((record { formed = r.0.formed; room = omega (arith, r.0.room, c.take_steps-ranges.auto.work) }, n.1, n.2), (search rules, λ e. record { lists = record { stores = search rules; arrays = search rules; sheet_room = search rules }; texts = record { stores = search rules; sheet_room = search rules } }))
 
 returns-2 : tie.Need-returns
 returns-2 c =
-    let done = c.before.before.before.before.before.before.before.before.before in
-    let told = done.before.before.before.before.before.before.before.before.before.before in
-    let first = told.before.before.before.before.before.before.before.before.before.before.before in
-    let nodes = (start first).args.nodes in (
-      c.take_steps.ensures.0 ∙ sym (ap (λ (w : Walked). walked nodes (p first) w (left first)) c.ranges.given.1) ∙ c.take_steps-ranges.ensures.0,
-      lent_ended (p first) c.take_steps.result c.take_steps.ensures.1,
+    let nodes = c.args.nodes in (
+      c.take_steps.ensures.0 ∙ sym (ap (λ (w : Walked). walked nodes c.args.plan.now w c.take_steps-ranges.new.work) c.in-Next.is) ∙ c.take_steps-ranges.ensures.0,
+      lent_ended c.args.plan.now c.take_steps.result c.take_steps.ensures.1,
     )
 
 pub walk_steps_spec : {M : Type 1} → statement M
