@@ -1,23 +1,17 @@
--- `answers::answer::compared` meets its contract: `agrees` finds the answer to be the list's.
--- Assumes nothing.
+-- `agrees` finds the answer to be the list's.
 use mathlib.Core.Path.{refl, sym, ap}
 use mathlib.Core.Option.{Option, some}
 use Rattle.calls.specs.Single.{Outcome, outcome}
 use Rattle.replies.specs.Reply.{replied}
 use Rattle.slots.proofs.Splits.{not_both}
-use borrow.Author.Rules.{rules}
-use Rattle.answers.proofs.answer.compared.Statement.{statement}
-use Rattle.answers.proofs.answer.compared.Tie as tie
+use Rattle.answers.proofs.answer.compared.Goals as goal
 
-returns : tie.Need-returns-then-agrees
-returns c =
+pub returns-then-agrees : goal.returns-then-agrees
+returns-then-agrees c =
     let a = c.args in
     (replied a.reply a.lent.now, refl, ap {B = Option Outcome} some (sym (c.agrees.ensures.0 c.if-agrees.true)))
 
-returns-2 : tie.Need-returns
-returns-2 c =
+pub returns : goal.returns
+returns c =
     let a = c.args in
     (a.lent.now, outcome a.code a.value a.expected.now, refl, refl, λ e. not_both c.if-agrees.false (c.agrees.ensures.1 e))
-
-pub compared_spec : {M : Type 1} → statement M
-compared_spec = tie.close (tie.spec (λ c κs. search rules) returns returns-2)

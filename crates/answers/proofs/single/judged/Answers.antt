@@ -1,5 +1,4 @@
--- `answers::single::judged` meets its contract: the line's numbers are told.
--- Assumes nothing.
+-- The line's numbers are told.
 use Prim.Native.Nat.{ℕ}
 use mathlib.Core.Path.{◌≡◌, sym, ◌∙◌}
 use mathlib.Core.List.{List}
@@ -7,9 +6,7 @@ use Rattle.lines.specs.declared.Number.TheVariants as N
 use Rattle.answers.specs.Texts.{number_at, with_number}
 use Rattle.answers.specs.CallLine.{call_asks, call_stores, call_defined, call_stored}
 use Rattle.answers.proofs.Buffers.{confirms}
-use borrow.Author.Rules.{rules}
-use Rattle.answers.proofs.single.judged.Statement.{statement}
-use Rattle.answers.proofs.single.judged.Tie as tie
+use Rattle.answers.proofs.single.judged.Goals as goal
 
 is_defined : (line out : List ℕ) {component node : ℕ} → number_at 0 line ≡ N.Is component → number_at 1 line ≡ N.Is node → call_defined line out ≡ call_asks line component node out
 unfolding call_defined with_number
@@ -19,8 +16,8 @@ is_stored : (line out : List ℕ) {code : ℕ} → number_at 5 line ≡ N.Is cod
 unfolding call_stored with_number
 is_stored line out a = rw a
 
-returns-5 : tie.Need-returns
-returns-5 c =
+pub returns : goal.returns
+returns c =
     let a = c.args in
     let line = a.line.now in
     let component = sym c.number_at-a.ensures ∙ c.in-Is.is in
@@ -28,30 +25,3 @@ returns-5 c =
     let code = sym c.number_at-c.ensures ∙ c.in-Is-c.is in
     let made = c.compared in
     confirms made.result (is_defined line a.out.now component node) (is_stored line a.expected.now code) made.ensures
-
-pub judged_spec : {M : Type 1} → statement M
-judged_spec =
-    tie.close
-    (tie.spec
-    (λ c κs. search rules)
-    (λ c. search rules)
-    (λ c κs. search rules)
-    (λ c. search rules)
-    (λ c. search rules)
-    (λ c. search rules)
-    (λ c κs. search rules)
-    (λ c. search rules)
-    (λ c. search rules)
-    (λ c. search rules)
-    (λ c κs. search rules)
-    (λ c. search rules)
-    (λ c. search rules)
-    (λ c. search rules)
-    (λ c κs. search rules)
-    (λ c κs. search rules)
-    (λ c. search rules)
-    (λ c. search rules)
-    (λ c κs. search rules)
-    (λ c. search rules)
-    (λ c. search rules)
-    returns-5)
