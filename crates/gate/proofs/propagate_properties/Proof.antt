@@ -24,25 +24,21 @@ returns c =
 
 -- the steps are next
 module _ (c : tie.In-Next) where
-  abbrev start : tie.Start
-  start = c.before.before.before.before.before.before
-
   abbrev p : List ℕ
-  p = start.args.plan.now
+  p = c.args.plan.now
 
   abbrev work : List ℕ
-  work = start.args.work.now
+  work = c.args.work.now
 
   ready : Walkable p work × (c.in-Next.k ≡ leaf_count p)
-  ready = subst (Begun p work) c.in-Next.is c.before.before.begin-begun.ensures.1
+  ready = subst (Begun p work) c.in-Next.is c.begin-begun.ensures.1
 
 walk-steps-requires : tie.Need-walk_steps-requires
-walk-steps-requires c κs = ready c.before.before
+walk-steps-requires c κs = ready c.before
 
 returns-2 : tie.Need-returns
 returns-2 c =
-    let done = c.before.before.before in
-    let b = done.before.before.before in
+    let b = c.before.before.before.before.before in
     let after = c.walk_steps.new.work in
     let same = c.walked_reply-2.ensures full_set (p b) after ∙ c.walk_steps.ensures.0
     ∙ sym (ap (λ (w : Walked). walked full_set (p b) w (work b)) c.in-Next.is) ∙ c.begin-begun.ensures.0 in

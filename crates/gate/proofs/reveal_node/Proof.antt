@@ -17,7 +17,7 @@ use Rattle.gate.proofs.reveal_node.Tie as tie
 
 module _ (c : tie.After-admitted-admitted) where
   abbrev start : tie.Start
-  start = c.before.before.before.before.before.before
+  start = c.before.before.before.before.before
 
   abbrev p : List ℕ
   p = start.args.plan.now
@@ -32,7 +32,7 @@ module _ (c : tie.After-admitted-admitted) where
   out = start.args.out.now
 
   small : AllBytes work
-  small = λ i. (c.before.before.before.slice_known-1.given i).fits
+  small = λ i. (c.slice_known-1.given i).fits
 
 walked-reply-requires : tie.Need-walked_reply-requires
 walked-reply-requires c κs =
@@ -48,9 +48,9 @@ returns c =
     (admitted_shown (p call) (owners call) a.reader a.wanted (work call) (out call) c.admitted-admitted.result c.walked_reply.result c.in_default.in_default-own.keys2 c.admitted-admitted.ensures c.walked_reply.ensures)
 
 -- the reader may see the node
-permitted : (c : tie.In-Next) → let call = c.before.before in let a = (start call).args in Permitted (p call) (owners call) a.reader a.wanted (work call)
+permitted : (c : tie.In-Next) → let call = c.before in let a = (start call).args in Permitted (p call) (owners call) a.reader a.wanted (work call)
 permitted c =
-    let call = c.before.before in
+    let call = c.before in
     let a = (start call).args in
     subst (Admitted (p call) (owners call) a.reader a.wanted (work call)) c.in-Next.is c.admitted-admitted.ensures
 
@@ -63,40 +63,40 @@ check-leaves-requires c κs = (permitted c.before).walkable
 walked-reply-requires-2 : tie.Need-walked_reply-requires-in_default-leaves
 walked-reply-requires-2 c κs =
     let check = c.before in
-    leaves_ended (p check.before.before.before.before.before) c.check_leaves-leaves.result c.in_default-leaves.in_default-leaves-own.keys2 c.check_leaves-leaves.ensures.next
+    leaves_ended (p check.before.before.before) c.check_leaves-leaves.result c.in_default-leaves.in_default-leaves-own.keys2 c.check_leaves-leaves.ensures.next
 
 returns-2 : tie.Need-returns-in_default-leaves
 returns-2 c =
     let check = c.before.before in
-    let stood = check.before.before in
+    let stood = check.before in
     let told = stood.before in
-    let call = told.before.before in
+    let call = told.before in
     let a = (start call).args in
     all_clauses (p call) (owners call) a.reader a.wanted (work call) (out call) (small call)
-    (leaves_shown (p call) (owners call) a.reader a.wanted (work call) (out call) (permitted c.before.before.before.before) c.Stands-on.result c.Stands-on.ensures
+    (leaves_shown (p call) (owners call) a.reader a.wanted (work call) (out call) (permitted c.before.before.before.before) c.stands_on-nodes.result c.stands_on-nodes.ensures
     c.check_leaves-leaves.result c.walked_reply-in_default-leaves.result c.in_default-leaves.in_default-leaves-own.keys2 c.check_leaves-leaves.ensures c.walked_reply-in_default-leaves.ensures)
 
 -- the leaves passed
 module _ (c : tie.In-Next-leaves) where
   abbrev stood : tie.After-stands_on-nodes
-  stood = c.before.before.before.before
+  stood = c.before.before
 
   abbrev told : tie.In-Next
   told = stood.before
 
   abbrev call : tie.After-admitted-admitted
-  call = told.before.before
+  call = told.before
 
-  says : LeavesSay stood.Stands-on.result (p call) (work call) (W.Next c.in-Next-leaves.k)
-  says = subst (LeavesSay stood.Stands-on.result (p call) (work call)) c.in-Next-leaves.is c.before.before.check_leaves-leaves.ensures
+  says : LeavesSay stood.stands_on-nodes.result (p call) (work call) (W.Next c.in-Next-leaves.k)
+  says = subst (LeavesSay stood.stands_on-nodes.result (p call) (work call)) c.in-Next-leaves.is c.check_leaves-leaves.ensures
 
 walk-steps-requires : tie.Need-walk_steps-steps-requires
-walk-steps-requires c κs = let l = c.before.before in ((permitted (told l)).walkable, (says l).next)
+walk-steps-requires c κs = let l = c.before in ((permitted (told l)).walkable, (says l).next)
 
 -- the steps were taken
 module _ (c : tie.After-walk_steps-steps) where
   abbrev passed : tie.In-Next-leaves
-  passed = c.before.before.before
+  passed = c.before.before
 
   abbrev after : List ℕ
   after = c.walk_steps-steps.new.work
@@ -107,31 +107,31 @@ returns-3 c =
     let l = passed done in
     let a = (start (call l)).args in
     all_clauses (p (call l)) (owners (call l)) a.reader a.wanted (work (call l)) (out (call l)) (small (call l))
-    (steps_shown (p (call l)) (owners (call l)) a.reader a.wanted (work (call l)) (out (call l)) (permitted (told l)) (stood l).Stands-on.result (stood l).Stands-on.ensures
-    l.leaves.given.0.0 (says l) (after done) c.walk_steps-steps.result c.walked_reply-in_default-steps.result c.in_default-steps.in_default-steps-own.keys2 c.walk_steps-steps.ensures.1
+    (steps_shown (p (call l)) (owners (call l)) a.reader a.wanted (work (call l)) (out (call l)) (permitted (told l)) (stood l).stands_on-nodes.result (stood l).stands_on-nodes.ensures
+    l.in-Next-leaves.k (says l) (after done) c.walk_steps-steps.result c.walked_reply-in_default-steps.result c.in_default-steps.in_default-steps-own.keys2 c.walk_steps-steps.ensures.1
     c.walk_steps-steps.ensures.0 c.walked_reply-in_default-steps.ensures)
 
 show-reply-requires : tie.Need-show_reply-requires
 show-reply-requires c κs =
-    let done = c.before.before.before.before.before.before in
+    let done = c.before.before.before.before in
     let l = passed done in
     let h = (permitted (told l)).node.within in
     let room = (permitted (told l)).walkable.room in
-    omega (arith, c.walk_steps-steps.auto)
+    omega (arith, c.walk_steps-steps.auto.work)
 
 returns-4 : tie.Need-returns
 returns-4 c =
     let shown = c.before.before in
-    let accepted = shown.before.before.before in
-    let done = accepted.before.before.before.before in
+    let accepted = shown.before.before in
+    let done = accepted.before.before.before in
     let l = passed done in
     let a = (start (call l)).args in
-    let nodes = (stood l).Stands-on.result in
-    let took = subst (λ (w : Walked). walked nodes (p (call l)) w (after done) ≡ walk narrow (p (call l)) (nodes_from nodes (p (call l)) l.leaves.given.0.0) (work (call l)))
+    let nodes = (stood l).stands_on-nodes.result in
+    let took = subst (λ (w : Walked). walked nodes (p (call l)) w (after done) ≡ walk narrow (p (call l)) (nodes_from nodes (p (call l)) l.in-Next-leaves.k) (work (call l)))
     c.in-Accepted.is c.walk_steps-steps.ensures.0 in
     all_clauses (p (call l)) (owners (call l)) a.reader a.wanted (work (call l)) (out (call l)) (small (call l))
-    (sheet_shown (p (call l)) (owners (call l)) a.reader a.wanted (work (call l)) (out (call l)) (permitted (told l)) nodes (stood l).Stands-on.ensures
-    l.leaves.given.0.0 (says l) (after done) _ c.show_reply.result _ took c.show_reply.ensures)
+    (sheet_shown (p (call l)) (owners (call l)) a.reader a.wanted (work (call l)) (out (call l)) (permitted (told l)) nodes (stood l).stands_on-nodes.ensures
+    l.in-Next-leaves.k (says l) (after done) _ c.show_reply.result _ took c.show_reply.ensures)
 
 pub reveal_node_spec : {M : Type 1} → statement M
 reveal_node_spec =
