@@ -106,7 +106,7 @@ lent : (c : tie.Joined-not-lent invariant-loop decreases-loop) → let t = c.bef
 lent c h =
     let t = c.before.before.before.before in
     elim c.if-not-lent.branch [
-        then-not-lent+else-may_use_stores w ↦ absurd (subst T (sym h ∙ sym w.may_use_stores.ensures ∙ w.if-may_use_stores.false) tt)
+      | then-not-lent+else-may_use_stores w ↦ absurd (subst T (sym h ∙ sym w.may_use_stores.ensures ∙ w.if-may_use_stores.false) tt)
       | else-not-lent w ↦ large t w.if-not-lent.false
     ]
 
