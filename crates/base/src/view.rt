@@ -1,5 +1,4 @@
-// 01: "A sheet is read through one view of its bytes". The borrow checker covers no function over a struct that holds a
-// slice, so each is proved by hand; each leaves the work to a covered function of the slice and an offset.
+// 01: "A sheet is read through one view of its bytes". Each function of the view leaves the work to one of the slice and an offset.
 ghost use Rattle.std.specs.Prelude.{◌≡◌, ◌+◌, ◌≤◌, ◌<◌, length, get_or};
 ghost use Rattle.octets.specs.Le.{le_at};
 ghost use Rattle.base.specs.Decode.{as_whole, as_float};
