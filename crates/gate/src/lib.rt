@@ -1,4 +1,4 @@
-// The calls that Rust and C see, each with a reply of a code and a value: the single call derives a sheet in a lent buffer, the plan call one for each step in a
+// The calls that Rust sees, and C through `gate_c`, each with a reply of a code and a value: the single call derives a sheet in a lent buffer, the plan call one for each step in a
 // lent work buffer, and the call that shows a node delivers one of these to a reader.
 #![tactic(auto)]
 

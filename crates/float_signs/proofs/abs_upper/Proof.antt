@@ -12,5 +12,5 @@ abs_upper_spec =
     (tie.spec
     (λ c κs. search rules)
     (λ c κs. search rules)
-    (λ c. rw c.if-a-c.true (rw c.copy.ensures.0, λ n m. c.copy.ensures.1 m))
-    (λ c. rw c.if-a-c.false (rw c.negate.ensures.0, λ n m. c.negate.ensures.1 n)))
+    (λ c. (search rules, λ n m. search rules))
+    (λ c. (search rules, λ n m. search rules)))
