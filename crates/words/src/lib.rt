@@ -11,7 +11,7 @@ pub const STDOUT: i32 = 1;
 
 // No contract can say what is written; the words stay as they were.
 pub fn say(n: u64, text: &[u8])
-    ensures { text.now ≡ text.now }
+    ensures { text.exit.now ≡ text.entry.now }
 {
     io::print_decimal(STDOUT, n);
     io::write_all(STDOUT, text);
@@ -19,7 +19,7 @@ pub fn say(n: u64, text: &[u8])
 
 // A component's name, and words behind it; any other number is none.
 pub fn component(n: u32, text: &[u8])
-    ensures { text.now ≡ text.now }
+    ensures { text.exit.now ≡ text.entry.now }
 {
     match n {
         Component::ABS => io::write_all(STDOUT, b"Abs"),
