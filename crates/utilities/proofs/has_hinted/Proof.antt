@@ -1,5 +1,5 @@
 -- `utilities::has_hinted` meets its contract: a hint of 0 tells that x is new, and a hint that leads to x that it is known. Assumes nothing.
-use mathlib.Core.Path.{sym, ap, ◌∙◌}
+use mathlib.Core.Path.{◌≡◌, sym, ap, ◌∙◌}
 use Prim.Native.Nat.{ℕ, ◌-◌, ◌<◌}
 use native.Mathlib.Omega.{arith}
 use borrow.Author.Rules.{rules}
@@ -19,19 +19,6 @@ shared-slice-read-wide : tie.Need-bounds-hints-at
 shared-slice-read-wide c =
     omega (arith, c.requires.1.size, c.requires.2, hint_within c.args.x)
 
-returns : tie.Need-returns-then-hint-eq0
-returns c =
-    let zero = ap (λ (k : ℕ). get_or c.args.hints.now k 0) (sym c.requires.2) ∙ sym c.wide-hint.ensures.0 ∙ c.if-hint-eq0.true in
-    sym (c.requires.1.new c.args.x zero)
-
-returns-2 : tie.Need-returns-then-s-hint
-returns-2 c =
-    let k = c.wide-hint.result - 1 in
-    let s = c.args.s.now in
-    let e = bits_inj (record { sfits = c.t13-1.given }) c.ranges.x c.if-s-hint.true in
-    let below : k < c.args.n = omega (arith, c.if-hint-n.true, c.if-hint-eq0.false) in
-    sym (has_here eq_z c.args.x s k c.args.n (pos 0) below c.requires.0 (eq_z_yes c.args.x (get_or s k (pos 0)) (sym e)))
-
 returns-3 : tie.Need-returns
 returns-3 c =
     c.has.ensures ∙ ap (λ (z : ℤ). has eq_z z (take c.args.n c.args.s.now)) (to_z-of_z c.ranges.x)
@@ -42,10 +29,17 @@ has_hinted_spec =
     (tie.spec
     shared-slice-read-wide
     (λ c κs. search rules)
-    returns
+    (λ c.
+    let unset : c.wide-hint.result ≡ 0 = search rules in
+    sym (c.requires.1.new c.args.x (ap (λ (k : ℕ). get_or c.args.hints.now k 0) (sym c.requires.2) ∙ sym c.wide-hint.ensures.0 ∙ unset)))
     (λ c. search rules)
     (λ c. search rules)
     (λ c. search rules)
-    returns-2
+    (λ c.
+    let k = c.wide-hint.result - 1 in
+    let s = c.args.s.now in
+    let e = bits_inj (record { sfits = c.t13-1.given }) c.ranges.x c.if-s-hint.true in
+    let below : k < c.args.n = omega arith in
+    sym (has_here eq_z c.args.x s k c.args.n (pos 0) below c.requires.0 (eq_z_yes c.args.x (get_or s k (pos 0)) (sym e))))
     (λ c κs. search rules)
     returns-3)
