@@ -22,8 +22,11 @@ all_taken : {hints : List ℕ} (store : List ℤ) (k r : ℕ) → length store �
 all_taken {hints} store k r h e w = subst (Hinting hints) (take_all k store h ∙ sym (take_all r store e)) w
 
 returns : tie.Need-returns-then-store-k
-returns c =
-    (c.requires.0, c.requires.2, λ seen h. stored_over eq_z h c.args.k _ c.if-store-k.true c.if-store-k.true)
+returns c = (
+  omega (arith, c.requires.0),
+  all_taken c.args.store.now c.args.k _ (omega (arith, c.if-store-k.true)) (omega (arith, c.if-store-k.true)) c.requires.2,
+  λ seen h. let over : length c.args.store.now < c.args.k = omega (arith, c.if-store-k.true) in stored_over eq_z h _ _ over (omega (arith, over)),
+)
 
 returns-2 : tie.Need-returns-in_default
 returns-2 c =

@@ -23,15 +23,7 @@ returns c =
     let uneven = counted a.columns c.sizes_at-l.ensures.lists c.spreads.ensures (ap not c.if-not-spreads.true) in
     (rw (derived_is (form_of a.f) a.float a.c a.data_type a.columns a.left.now a.right.now, uneven), tt)
 
-returns-2 : tie.Need-returns-then-not-spreads-2
-unfolding checked
-returns-2 c =
-    let y = c.before.before in
-    let a = c.args in
-    let even = counted a.columns c.sizes_at-l.ensures.lists c.spreads.ensures (ap not c.if-not-spreads.false) in
-    let uneven = counted a.columns c.sizes_at-r.ensures.lists c.spreads-2.ensures (ap not c.if-not-spreads-2.true) in
-    (rw (derived_is (form_of a.f) a.float a.c a.data_type a.columns a.left.now a.right.now, even, uneven), tt)
-
+-- It stands before `returns-2`: where another count is tested that arm may be out of reach, and it is here that nothing tells of the right list.
 put-columns-requires : tie.Need-put_columns-requires
 put-columns-requires c κs =
     let w = c.before.before in
@@ -49,6 +41,15 @@ put-columns-requires c κs =
       p.5,
       p.6,
     )
+
+returns-2 : tie.Need-returns-then-not-spreads-2
+unfolding checked
+returns-2 c =
+    let y = c.before.before in
+    let a = c.args in
+    let even = counted a.columns c.sizes_at-l.ensures.lists c.spreads.ensures (ap not c.if-not-spreads.false) in
+    let uneven = counted a.columns c.sizes_at-r.ensures.lists c.spreads-2.ensures (ap not c.if-not-spreads-2.true) in
+    (rw (derived_is (form_of a.f) a.float a.c a.data_type a.columns a.left.now a.right.now, even, uneven), tt)
 
 returns-3 : tie.Need-returns
 unfolding checked

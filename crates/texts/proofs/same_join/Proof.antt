@@ -45,18 +45,7 @@ loop-holds c =
     let second = c.if-n-join_length.false ∙ c.join_length.ensures in
     (omega arith, first, second, join_size F c.requires.0 ∙ sym first, join_size F c.requires.1 ∙ sym second, refl)
 
-returns-2 : tie.Need-returns-then-join_byte invariant-loop decreases-loop
-returns-2 c =
-    let l = c.loop-i in
-    let a = c.args in
-    let F = form_of a.f in
-    let x = join_in F a.left.now a.right.now a.a in
-    let y = join_in F a.left.now a.right.now a.b in
-    let rest = same_text (drop (l.i + 1) x) (drop (l.i + 1) y) in
-    let other = ne_eqb (get_or x l.i 0) (get_or y l.i 0) (λ e. c.if-join_byte.true (c.join_byte.ensures ∙ e ∙ sym c.join_byte-in-loop-i.ensures)) in
-    let more = same_more x y l.i (omega (arith, c.loop-i-test.true, l.invariant.3)) (omega (arith, c.loop-i-test.true, l.invariant.4)) in
-    sym (sym l.invariant.5 ∙ more ∙ ap (λ (e : Bool). e && rest) other)
-
+-- It stands before `returns-2`: where other bytes are compared that arm may be out of reach, and it is here that the invariant is lost.
 loop-again : tie.Need-loop-i-preserved invariant-loop decreases-loop
 loop-again c =
     let l = c.loop-i in
@@ -68,6 +57,18 @@ loop-again c =
     let same = eq-eqb (get_or x l.i 0) (get_or y l.i 0) (sym c.join_byte.ensures ∙ c.if-join_byte.false ∙ c.join_byte-in-loop-i.ensures) in
     let more = same_more x y l.i (omega (arith, c.loop-i-test.true, l.invariant.3)) (omega (arith, c.loop-i-test.true, l.invariant.4)) in
     (omega (arith, c.loop-i-test.true), l.invariant.1, l.invariant.2, l.invariant.3, l.invariant.4, sym (more ∙ ap (λ (e : Bool). e && rest) same) ∙ l.invariant.5)
+
+returns-2 : tie.Need-returns-then-join_byte invariant-loop decreases-loop
+returns-2 c =
+    let l = c.loop-i in
+    let a = c.args in
+    let F = form_of a.f in
+    let x = join_in F a.left.now a.right.now a.a in
+    let y = join_in F a.left.now a.right.now a.b in
+    let rest = same_text (drop (l.i + 1) x) (drop (l.i + 1) y) in
+    let other = ne_eqb (get_or x l.i 0) (get_or y l.i 0) (λ e. c.if-join_byte.true (c.join_byte.ensures ∙ e ∙ sym c.join_byte-in-loop-i.ensures)) in
+    let more = same_more x y l.i (omega (arith, c.loop-i-test.true, l.invariant.3)) (omega (arith, c.loop-i-test.true, l.invariant.4)) in
+    sym (sym l.invariant.5 ∙ more ∙ ap (λ (e : Bool). e && rest) other)
 
 returns-3 : tie.Need-returns invariant-loop decreases-loop
 returns-3 c =
