@@ -6,6 +6,7 @@ use lib.IntN.{pos, ◌+ℤ◌, ◌-ℤ◌}
 use lib.Signed.{le_z}
 use mir.Facts.{to_z-of_z}
 use Rattle.numbers.specs.Checked.{checked_of}
+use Rattle.numbers.specs.declared.Checked.TheVariants.{Leaves}
 use Rattle.numbers.proofs.Sums.{neg_fits, sub_least_out}
 use Rattle.numbers.proofs.Bits.{again, back, minus_is}
 use Rattle.numbers.proofs.Laws.{fits_answer, leaves_answer}
@@ -31,6 +32,8 @@ checked_sub_spec =
     returns
     (λ c.
     let f = c.ranges in
-    let up : le_z (pos 0) (back f.a) ≡ true = search rules in
-    leaves_answer (ap₂ ◌-ℤ◌ (to_z-of_z f.a) (to_z-of_z f.b)) (sub_least_out (back f.a) (back f.b) c.if-b-gt-LEAST.false up))
+    let out : le_z (pos 0) (back f.a) ≡ true → Leaves ≡ checked_of (c.args.a -ℤ c.args.b) =
+    λ up. leaves_answer (ap₂ ◌-ℤ◌ (to_z-of_z f.a) (to_z-of_z f.b)) (sub_least_out (back f.a) (back f.b) c.if-b-gt-LEAST.false up)
+    in
+    search rules)
     (λ c. fits_answer (ap₂ ◌-ℤ◌ (to_z-of_z c.ranges.a) (to_z-of_z c.ranges.b)) (search rules)))

@@ -1,5 +1,6 @@
 -- `utilities::has_hinted` meets its contract: a hint of 0 tells that x is new, and a hint that leads to x that it is known. Assumes nothing.
 use mathlib.Core.Path.{◌≡◌, sym, ap, ◌∙◌}
+use mathlib.Core.Bool.{false}
 use Prim.Native.Nat.{ℕ, ◌-◌, ◌<◌}
 use native.Mathlib.Omega.{arith}
 use borrow.Author.Rules.{rules}
@@ -30,8 +31,10 @@ has_hinted_spec =
     shared-slice-read-wide
     (λ c κs. search rules)
     (λ c.
-    let unset : c.wide-hint.result ≡ 0 = search rules in
-    sym (c.requires.1.new c.args.x (ap (λ (k : ℕ). get_or c.args.hints.now k 0) (sym c.requires.2) ∙ sym c.wide-hint.ensures.0 ∙ unset)))
+    let new : c.wide-hint.result ≡ 0 → false ≡ has eq_z c.args.x (take c.args.n c.args.s.now) =
+    λ unset. sym (c.requires.1.new c.args.x (ap (λ (k : ℕ). get_or c.args.hints.now k 0) (sym c.requires.2) ∙ sym c.wide-hint.ensures.0 ∙ unset))
+    in
+    search rules)
     (λ c. search rules)
     (λ c. search rules)
     (λ c. search rules)
