@@ -83,12 +83,22 @@ neg_out a t =
 
 -- ---- the least number taken from a
 
-pub sub_least_out : (a b : ℤ) → lt_z min b ≡ false → le_z (pos 0) a ≡ true → 2 ^ 63 ≤ mag (a -ℤ b)
-sub_least_out a b least t =
-    let p = sub_eq a b in
-    let u = lt_false min b least in
-    let v = le_true (pos 0) a t in
-    over_mag (a -ℤ b) (2 ^ 63) (omega arith)
+module _ (a b : ℤ) (fa : SFits w64 a) (fb : SFits w64 b) (least : lt_z min b ≡ false) where
+  pub sub_least : le_z (pos 0) a ≡ false → SFits w64 (a -ℤ b)
+  sub_least t =
+      let p = sub_eq a b in
+      let s = mag_in a (2 ^ 63) fa.sfits in
+      let s' = mag_in b (2 ^ 63) fb.sfits in
+      let u = lt_false min b least in
+      let v = le_false (pos 0) a t in
+      record { sfits = in_mag (a -ℤ b) (2 ^ 63) (omega arith) (omega arith) }
+
+  pub sub_least_out : le_z (pos 0) a ≡ true → 2 ^ 63 ≤ mag (a -ℤ b)
+  sub_least_out t =
+      let p = sub_eq a b in
+      let u = lt_false min b least in
+      let v = le_true (pos 0) a t in
+      over_mag (a -ℤ b) (2 ^ 63) (omega arith)
 
 -- ---- the magnitude of a negative number: x is a + 1 and y is -x, as the code reads them back
 

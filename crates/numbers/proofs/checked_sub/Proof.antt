@@ -33,7 +33,7 @@ checked_sub_spec =
     (λ c.
     let f = c.ranges in
     let out : le_z (pos 0) (back f.a) ≡ true → Leaves ≡ checked_of (c.args.a -ℤ c.args.b) =
-    λ up. leaves_answer (ap₂ ◌-ℤ◌ (to_z-of_z f.a) (to_z-of_z f.b)) (sub_least_out (back f.a) (back f.b) c.if-b-gt-LEAST.false up)
+    λ up. leaves_answer (ap₂ ◌-ℤ◌ (to_z-of_z f.a) (to_z-of_z f.b)) (sub_least_out _ _ (again f.a) (again f.b) c.if-b-gt-LEAST.false up)
     in
     search rules)
     (λ c. fits_answer (ap₂ ◌-ℤ◌ (to_z-of_z c.ranges.a) (to_z-of_z c.ranges.b)) (search rules)))
