@@ -16,7 +16,10 @@ unfolding joined
 returns-2 c = rw (sym c.hex_digit-first.ensures.0, c.in-Is.is, sym c.hex_digit-second.ensures.0, c.in_default-second.is)
 
 mul-t7 : tie.Need-overflow_mul-result
-mul-t7 c = omega (arith, subst (Below 16) c.in-Is.is c.hex_digit-first.ensures.1)
+mul-t7 c =
+    let high = subst (Below 16) c.in-Is.is c.hex_digit-first.ensures.1 in
+    let low = subst (Below 16) c.in-Is-second.is c.hex_digit-second.ensures.1 in
+    omega arith
 
 add-t8 : tie.Need-overflow_add-result
 add-t8 c =

@@ -1,9 +1,11 @@
 -- `list_natures::joined_texts` meets its contract. Assumes nothing.
 use mathlib.Core.Path.{◌≡◌, sym, ap, ◌∙◌}
+use mathlib.Core.Bool.{false}
 use borrow.Author.Rules.{rules}
 use borrow.Author.Tests.{not-true, not-false}
 use Rattle.base.specs.Form.{form_of}
 use Rattle.base.specs.Components.{family_of}
+use Rattle.list_codes.specs.Code.{joins}
 use Rattle.lending.proofs.Lending.{texts_room_lem}
 use Rattle.writer.specs.Written.{in_writing}
 use Rattle.list_natures.proofs.Joined.{no_join, join, joins_both}
@@ -14,7 +16,7 @@ returns : tie.Need-returns-then-not-joins
 returns c =
     let a = c.args in
     let F = form_of a.f in
-    let without = sym c.joins.ensures ∙ c.if-not-joins.true in
+    let without : joins a.c ≡ false = cc in
     let j = c.requires.0 in
     let e = no_join F a.left.now a.right.now j.lefts.is_text j.rights.is_text a.c a.data_type a.columns without in
     (ap (in_writing F) (sym e), tt)

@@ -1,6 +1,6 @@
 -- `list_natures::propagate_binary_categorical_nature` meets its contract. Assumes nothing.
 use mathlib.Core.Path.{◌≡◌, sym, ap, subst, ◌∙◌}
-use mathlib.Core.Bool.{true}
+use mathlib.Core.Bool.{true, false}
 use Prim.Native.Nat.{ℕ, ◌≤◌}
 use borrow.Author.Rules.{rules}
 use borrow.Author.Tests.{not-true, not-false}
@@ -22,19 +22,19 @@ use Rattle.list_natures.proofs.Joined.{joins_both}
 use Rattle.list_natures.proofs.propagate_binary_categorical_nature.Statement.{statement}
 use Rattle.list_natures.proofs.propagate_binary_categorical_nature.Tie as tie
 
-returns : tie.Need-returns-then-k-ne0
-returns c =
-    let a = c.args in
-    let F = form_of a.f in
-    let e = pair_fails a.columns (nature_in F a.left.now) (nature_in F a.right.now) c.both_lists_code-k.ensures c.if-k-ne0.true F a.c a.data_type in
-    (ap (in_writing F) (sym e), tt)
-
 -- 19, 20, 29 and 21 have passed
 none : (c : tie.Else-k-ne0) → let a = c.args in first_failing (both_list_checks a.columns (nature_in (form_of a.f) a.left.now) (nature_in (form_of a.f) a.right.now)) ≡ 0
 none c = sym c.both_lists_code-k.ensures ∙ c.if-k-ne0.false
 
 pass : (c : tie.Else-k-ne0) → let a = c.args in Joint (form_of a.f) a.left.now a.right.now
 pass c = joint c.requires.0.0 c.requires.0.1 c.args.columns (none c)
+
+returns : tie.Need-returns-then-k-ne0
+returns c =
+    let a = c.args in
+    let F = form_of a.f in
+    let e = pair_fails a.columns (nature_in F a.left.now) (nature_in F a.right.now) c.both_lists_code-k.ensures c.if-k-ne0.true F a.c a.data_type in
+    (ap (in_writing F) (sym e), tt)
 
 joined-texts-requires : tie.Need-joined_texts-requires
 joined-texts-requires c κs =
@@ -75,7 +75,7 @@ returns-4 : tie.Need-returns-then-not-has_rule
 returns-4 c =
     let a = c.args in
     let F = form_of a.f in
-    let without = sym c.has_rule.ensures ∙ c.if-not-has_rule.true in
+    let without : has_rule (family_of a.c) ≡ false = cc in
     let e = no_rule a.c a.data_type a.columns F a.left.now a.right.now (none c.before.before.before.before.before) (pass c.before.before.before.before.before) (whole c.before.before) c.requires.0.3 without in
     (ap (in_writing F) (sym e), tt)
 

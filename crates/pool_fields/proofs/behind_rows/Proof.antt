@@ -4,10 +4,10 @@ use Rattle.pool_fields.proofs.behind_rows.Statement.{statement}
 use Rattle.pool_fields.proofs.behind_rows.Tie as tie
 
 returns : tie.Need-returns-then-k
-returns c = rw (c.in-Refused.is, c.if-k.true)
+returns c = rw c.in-Refused.is (search rules)
 
 returns-2 : tie.Need-returns-else-k
-returns-2 c = rw (c.in-Refused.is, c.if-k.false)
+returns-2 c = rw c.in-Refused.is (search rules)
 
 returns-3 : tie.Need-returns-in-Nature
 returns-3 c = rw c.in-Nature.is

@@ -28,24 +28,6 @@ returns c =
     let a = c.args in
     (pair_refused (form_of a.f) a.c a.node a.left.now a.right.now c.pair_code-k.ensures c.if-k-ne0.true, tt)
 
-propagate-binary-nature-requires : tie.Need-propagate_binary_nature-derived-requires
-propagate-binary-nature-requires c κs =
-    let a = c.args in
-    let p = c.requires in
-    let none = sym c.pair_code-k.ensures ∙ c.if-k-ne0.false in
-    let limited =
-    pair_columns (form_of a.f) a.left.now a.right.now p.0.0.fields p.0.1.fields none c.read_head-l.ensures
-    c.read_head-r.ensures c.widest-columns.ensures in (
-      (
-        p.0.0,
-        p.0.1,
-        record { some_column = limited.0; within = limited.1; first_room = p.1.0.first_room; second_room = p.1.0.second_room },
-        inl (ap (λ (f : Family). is_int_copy f c.read_head-l.result.data_type) p.0.2),
-        ap is_unary p.0.2,
-      ),
-      p.1.1,
-    )
-
 returns-2 : tie.Need-returns-in_default
 returns-2 c =
     let told = c.in_default.is in
@@ -87,6 +69,24 @@ returns-3 c =
           (rw c.in-Nature.is at c.propagate_binary_nature-derived.ensures.0)
           (rw back at c.put_pair.ensures.1),
       c.put_pair.ensures.0,
+    )
+
+propagate-binary-nature-requires : tie.Need-propagate_binary_nature-derived-requires
+propagate-binary-nature-requires c κs =
+    let a = c.args in
+    let p = c.requires in
+    let none = sym c.pair_code-k.ensures ∙ c.if-k-ne0.false in
+    let limited =
+    pair_columns (form_of a.f) a.left.now a.right.now p.0.0.fields p.0.1.fields none c.read_head-l.ensures
+    c.read_head-r.ensures c.widest-columns.ensures in (
+      (
+        p.0.0,
+        p.0.1,
+        record { some_column = limited.0; within = limited.1; first_room = p.1.0.first_room; second_room = p.1.0.second_room },
+        inl (ap (λ (f : Family). is_int_copy f c.read_head-l.result.data_type) p.0.2),
+        ap is_unary p.0.2,
+      ),
+      p.1.1,
     )
 
 pub step_pair_spec : {M : Type 1} → statement M

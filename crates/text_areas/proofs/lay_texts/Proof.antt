@@ -66,23 +66,6 @@ loop-holds c =
 mul-place : tie.Need-overflow_mul-place invariant-loop decreases-loop
 mul-place c = let s = small c.args.f in search rules
 
-add-reach : tie.Need-overflow_add-at invariant-loop decreases-loop
-add-reach c = let s = small c.args.f in record { fits = omega (arith, size_below c, c.loop-i.invariant.1, s.text) }
-
-returns : tie.Need-returns-then-limit-at invariant-loop decreases-loop
-returns c =
-    let e = c.before in
-    let l = c.loop-i in
-    let a = c.args in
-    let above : (F e).text_limit < l.at + length (text_at (F e) (left e) (right e) (values e) l.i) =
-    omega (arith, c.if-limit-at.true, size_is e, c.text_limit-limit.ensures.0) in
-    let over = laying_over (F e) (left e) (right e) (values e) a.t l.invariant.3 (next e) (F e).text_limit above in
-    λ cs bytes fits.
-    subst
-    (λ (xs : List (List ℕ)). AreaLaid (F e) a.n a.t xs l.values (D.Refused 28))
-    (codes_read (join_in (F e) (left e) (right e)) (values e) a.t cs (omega (arith, c.requires.0)) bytes fits)
-    (area_over (F e) a.n a.t _ l.values over)
-
 put-spot-requires : tie.Need-put_spot-requires invariant-loop decreases-loop
 put-spot-requires c κs =
     let e = c.before.before in
@@ -101,13 +84,7 @@ put-join-requires c κs =
     let e = p.before.before.before in
     let l = c.loop-i in
     rw (code_is e)
-    (lies e, omega (arith, size_is e, c.if-limit-at.false, c.put_spot.auto.values, l.invariant.2, c.text_limit-limit.ensures.0, c.requires.0))
-
-add_at : tie.Need-overflow_add-at-in-loop-i invariant-loop decreases-loop
-add_at c =
-    let e = c.before.before.before.before.before.before.before.before.before in
-    let s = small c.args.f in
-    record { fits = omega (arith, size_below e, c.loop-i.invariant.1, s.text) }
+    (lies e, omega (arith, size_is e, c.put_spot.auto.values, l.invariant.2, c.text_limit-limit.ensures.0, c.requires.0))
 
 loop-again : tie.Need-loop-i-preserved invariant-loop decreases-loop
 loop-again c =
@@ -116,7 +93,7 @@ loop-again c =
     let e = p.before.before.before in
     let l = c.loop-i in
     let a = c.args in
-    let within : l.at + c.join_length-size.result ≤ (F e).text_limit = omega (arith, c.if-limit-at.false, c.text_limit-limit.ensures.0) in
+    let within : l.at + c.join_length-size.result ≤ (F e).text_limit = omega (arith, c.text_limit-limit.ensures.0) in
     let laid = subst (λ (k : ℕ). Wrote c.put_spot.new.values (8 * a.t + l.at) (length (join_in (F e) (left e) (right e) k)) (join_in (F e) (left e) (right e) k) c.put_join.new.buf c.put_join.result) (code_is e) c.put_join.ensures in (
       omega (arith, next e),
       within,
@@ -162,13 +139,27 @@ lay_texts_spec =
     mul-place
     (λ c κs. search rules)
     (λ c κs. search rules)
-    add-reach
+    (λ c. let s = small c.args.f in record { fits = omega (arith, size_below c, c.loop-i.invariant.1, s.text) })
     (λ c. search rules)
-    returns
+    (λ c.
+      let e = c.before in
+      let l = c.loop-i in
+      let a = c.args in
+      let above : (F e).text_limit < l.at + length (text_at (F e) (left e) (right e) (values e) l.i) =
+      omega (arith, size_is e, c.text_limit-limit.ensures.0) in
+      let over = laying_over (F e) (left e) (right e) (values e) a.t l.invariant.3 (next e) (F e).text_limit above in
+      λ cs bytes fits.
+      subst
+      (λ (xs : List (List ℕ)). AreaLaid (F e) a.n a.t xs l.values (D.Refused 28))
+      (codes_read (join_in (F e) (left e) (right e)) (values e) a.t cs (omega (arith, c.requires.0)) bytes fits)
+      (area_over (F e) a.n a.t _ l.values over))
     put-spot-requires
     add-put-join
     put-join-requires
-    add_at
+    (λ c.
+      let e = c.before.before.before.before.before.before.before.before.before in
+      let s = small c.args.f in
+      record { fits = omega (arith, size_below e, c.loop-i.invariant.1, s.text) })
     (λ c. search rules)
     (λ c. search rules)
     loop-again
