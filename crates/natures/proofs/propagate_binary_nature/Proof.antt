@@ -115,33 +115,33 @@ propagate_binary_nature_spec =
     (λ c κs. search rules)
     (λ c κs. search rules)
     (λ c.
-      let a = c.args in
-      let F = form_of a.f in
-      let p = left_is c.before.before.before.before.before.before.before in
-      let q = right_is c.before.before.before.before.before.before.before in
-      let x = ap is_range_nature p ∙ sym c.is_range.ensures ∙ c.if-is_range.true in
-      let y = ap is_range_nature q ∙ sym c.is_range-then-is_range.ensures ∙ c.if-is_range-2.true in
-      let differ : (c.nature_of-x.result ≡ c.nature_of-y.result → ⊥) = λ same. omega arith in
-      let e = unequal_ranges a.c a.data_type a.columns (lists_pair F a.c a.data_type a.columns) (nature_in F a.left.now) (nature_in F a.right.now) x y (λ same. differ (sym p ∙ same ∙ q)) in
-      (ap (in_writing F) (sym e), tt))
+    let a = c.args in
+    let F = form_of a.f in
+    let p = left_is c.before.before.before.before.before.before.before in
+    let q = right_is c.before.before.before.before.before.before.before in
+    let x = ap is_range_nature p ∙ sym c.is_range.ensures ∙ c.if-is_range.true in
+    let y = ap is_range_nature q ∙ sym c.is_range-then-is_range.ensures ∙ c.if-is_range-2.true in
+    let differ : (c.nature_of-x.result ≡ c.nature_of-y.result → ⊥) = λ same. omega arith in
+    let e = unequal_ranges a.c a.data_type a.columns (lists_pair F a.c a.data_type a.columns) (nature_in F a.left.now) (nature_in F a.right.now) x y (λ same. differ (sym p ∙ same ∙ q)) in
+    (ap (in_writing F) (sym e), tt))
     (λ c κs.
-      let ready = c.requires.0.2 in
-      let room = range_room ready (laid c.args.f) in
-      let l = rw c.nature_of-x.ensures at (sym c.is_range.ensures ∙ c.if-is_range.true) in
-      let r = rw c.nature_of-y.ensures at (sym c.is_range-then-is_range.ensures ∙ c.if-is_range-2.true) in
-      let m = c.requires.0.0.sizes in
-      let n = c.requires.0.1.sizes in
-      (m, l, search rules, search rules, ready.within, room.0, room.1))
+    let ready = c.requires.0.2 in
+    let room = range_room ready (laid c.args.f) in
+    let l = rw c.nature_of-x.ensures at (sym c.is_range.ensures ∙ c.if-is_range.true) in
+    let r = rw c.nature_of-y.ensures at (sym c.is_range-then-is_range.ensures ∙ c.if-is_range-2.true) in
+    let m = c.requires.0.0.sizes in
+    let n = c.requires.0.1.sizes in
+    (m, l, search rules, search rules, ready.within, room.0, room.1))
     (λ c. search rules)
     (λ c. search rules)
     (λ c.
-      let a = c.args in
-      let F = form_of a.f in
-      let x = c.nature_of-x.ensures in
-      let range = rw x at (sym c.is_range.ensures ∙ c.if-is_range.true) in
-      let same : c.nature_of-x.result ≡ c.nature_of-y.result = omega arith in
-      let e = both_ranges a.c a.data_type a.columns (lists_pair F a.c a.data_type a.columns) F a.left.now a.right.now range (sym x ∙ same ∙ c.nature_of-y.ensures) in
-      ((rw x at c.range_pair.ensures.0) ∙ ap (in_writing F) (sym e), wider F _ _ (omega (arith, ends_room_lem (laid a.f) (family_of a.c) a.left.now a.right.now, nature_room_lem (laid a.f) (family_of a.c) a.left.now a.right.now)) c.range_pair.result c.range_pair.ensures.1))
+    let a = c.args in
+    let F = form_of a.f in
+    let x = c.nature_of-x.ensures in
+    let range = rw x at (sym c.is_range.ensures ∙ c.if-is_range.true) in
+    let same : c.nature_of-x.result ≡ c.nature_of-y.result = omega arith in
+    let e = both_ranges a.c a.data_type a.columns (lists_pair F a.c a.data_type a.columns) F a.left.now a.right.now range (sym x ∙ same ∙ c.nature_of-y.ensures) in
+    ((rw x at c.range_pair.ensures.0) ∙ ap (in_writing F) (sym e), wider F _ _ (omega (arith, ends_room_lem (laid a.f) (family_of a.c) a.left.now a.right.now, nature_room_lem (laid a.f) (family_of a.c) a.left.now a.right.now)) c.range_pair.result c.range_pair.ensures.1))
     (λ c κs. search rules)
     returns-5
     (λ c κs. search rules)

@@ -122,16 +122,16 @@ united_categorical_nature_spec =
     (λ c. search rules)
     (λ c. search rules)
     (λ c.
-      let a = c.args in
-      let F = form_of a.f in
-      let left = a.left.now in
-      let right = a.right.now in
-      let call = c.texts_together.ensures in
-      let passed = c.before.before.before.before.before.before.before.before.before.before.before.before.before.before.before in
-      let text : byte_at (form_of c.args.f) nature_at c.args.left.now ≡ 6 = cc in
-      let e = union_joins a.columns (nature_in F left) (nature_in F right) (none passed) in
-      let h = united_texts F a.columns left right text (sym (pass passed).same ∙ text) in
-      (call.0 ∙ ap (in_writing F) (h ∙ ap (λ (g : Result Nature). and_then g (kept F)) (sym e)), rw (texts_room_lem Fam.Pool F left right (texts passed text)) call.1))
+    let a = c.args in
+    let F = form_of a.f in
+    let left = a.left.now in
+    let right = a.right.now in
+    let call = c.texts_together.ensures in
+    let passed = c.before.before.before.before.before.before.before.before.before.before.before.before.before.before.before in
+    let text : byte_at (form_of c.args.f) nature_at c.args.left.now ≡ 6 = cc in
+    let e = union_joins a.columns (nature_in F left) (nature_in F right) (none passed) in
+    let h = united_texts F a.columns left right text (sym (pass passed).same ∙ text) in
+    (call.0 ∙ ap (in_writing F) (h ∙ ap (λ (g : Result Nature). and_then g (kept F)) (sym e)), rw (texts_room_lem Fam.Pool F left right (texts passed text)) call.1))
     lists-united-requires
     (λ c. search rules)
     (λ c. search rules)

@@ -142,24 +142,24 @@ lay_texts_spec =
     (λ c. let s = small c.args.f in record { fits = omega (arith, size_below c, c.loop-i.invariant.1, s.text) })
     (λ c. search rules)
     (λ c.
-      let e = c.before in
-      let l = c.loop-i in
-      let a = c.args in
-      let above : (F e).text_limit < l.at + length (text_at (F e) (left e) (right e) (values e) l.i) =
-      omega (arith, size_is e, c.text_limit-limit.ensures.0) in
-      let over = laying_over (F e) (left e) (right e) (values e) a.t l.invariant.3 (next e) (F e).text_limit above in
-      λ cs bytes fits.
-      subst
-      (λ (xs : List (List ℕ)). AreaLaid (F e) a.n a.t xs l.values (D.Refused 28))
-      (codes_read (join_in (F e) (left e) (right e)) (values e) a.t cs (omega (arith, c.requires.0)) bytes fits)
-      (area_over (F e) a.n a.t _ l.values over))
+    let e = c.before in
+    let l = c.loop-i in
+    let a = c.args in
+    let above : (F e).text_limit < l.at + length (text_at (F e) (left e) (right e) (values e) l.i) =
+    omega (arith, size_is e, c.text_limit-limit.ensures.0) in
+    let over = laying_over (F e) (left e) (right e) (values e) a.t l.invariant.3 (next e) (F e).text_limit above in
+    λ cs bytes fits.
+    subst
+    (λ (xs : List (List ℕ)). AreaLaid (F e) a.n a.t xs l.values (D.Refused 28))
+    (codes_read (join_in (F e) (left e) (right e)) (values e) a.t cs (omega (arith, c.requires.0)) bytes fits)
+    (area_over (F e) a.n a.t _ l.values over))
     put-spot-requires
     add-put-join
     put-join-requires
     (λ c.
-      let e = c.before.before.before.before.before.before.before.before.before in
-      let s = small c.args.f in
-      record { fits = omega (arith, size_below e, c.loop-i.invariant.1, s.text) })
+    let e = c.before.before.before.before.before.before.before.before.before in
+    let s = small c.args.f in
+    record { fits = omega (arith, size_below e, c.loop-i.invariant.1, s.text) })
     (λ c. search rules)
     (λ c. search rules)
     loop-again
