@@ -114,7 +114,10 @@ node-count-requires : tie.Need-node_count-count-requires invariant-loop decrease
 node-count-requires c κs = (planned c.args.plan.now c.requires.0.0.formed).sizes
 
 loop-holds : tie.Need-loop-k-init invariant-loop decreases-loop
-loop-holds c = (c.requires.0.1, c.requires.0.2, refl, refl, refl, refl, refl, refl, refl, refl, refl)
+loop-holds c =
+    let f = (planned c.args.plan.now c.requires.0.0.formed).leaves in
+    let n = c.node_count-count.ensures in
+    (omega (arith, c.requires.0.1), omega (arith, c.requires.0.2), refl, refl, refl, refl, refl, refl, refl, refl, refl)
 
 has-requires : tie.Need-has-requires invariant-loop decreases-loop
 has-requires c κs = let h = few c in omega arith

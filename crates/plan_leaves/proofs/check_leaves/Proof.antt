@@ -33,7 +33,8 @@ leaf-count-requires c κs = (planned c.args.plan.now c.requires.formed).sizes
 
 loop-holds : tie.Need-loop-k-init invariant-loop decreases-loop
 loop-holds c =
-    let a = c.args in (
+    let a = c.args in
+    let f = (planned a.plan.now c.requires.formed).some_leaf in (
       omega arith,
       λ rest.
           ap (λ (n : ℕ). leaves_then narrow (chosen (in_set a.nodes) (list_from n 0 (λ i. i))) a.work.now rest) (sym (sub-zero (leaf_count a.plan.now))),
