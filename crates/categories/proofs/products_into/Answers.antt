@@ -129,6 +129,16 @@ product-preserved c =
 
 -- ---- how the loops are left
 
+-- code is 0, so that all columns are written
+pub returns : goal.returns
+returns c =
+    let o = c.product in
+    let within = going_within o.invariant whole_lists_nature c.requires.n_bound c.requires.stores.1 c.gather.ensures in
+    elim c.product-test.branch [
+      | else-product-test w ↦ (ended_gathered (going_done o.invariant w.code-is w.product-test.false) c.if-code-ne0.false c.gather.ensures, within)
+      | then-product-test+then-loop-i-test+then-loop-m-test+in_default w ↦ absurd (omega (arith, w.code-is, c.if-code-ne0.false))
+    ]
+
 -- a pair was refused, and so is the whole: a code that is not 0 comes of no other way out
 pub returns-then-code-ne0 : goal.returns-then-code-ne0
 returns-then-code-ne0 c =
@@ -153,13 +163,3 @@ returns-then-code-ne0 c =
 
 pub gather-requires : goal.gather-requires
 gather-requires c = (c.requires.n_bound, c.product.invariant.columns.tally.bound)
-
--- code is 0, so that all columns are written
-pub returns : goal.returns
-returns c =
-    let o = c.product in
-    let within = going_within o.invariant whole_lists_nature c.requires.n_bound c.requires.stores.1 c.gather.ensures in
-    elim c.product-test.branch [
-      | else-product-test w ↦ (ended_gathered (going_done o.invariant w.code-is w.product-test.false) c.if-code-ne0.false c.gather.ensures, within)
-      | then-product-test+then-loop-i-test+then-loop-m-test+in_default w ↦ absurd (omega (arith, w.code-is, c.if-code-ne0.false))
-    ]

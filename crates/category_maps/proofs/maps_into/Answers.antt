@@ -70,16 +70,6 @@ loop-i-preserved c =
 
 -- ---- the column is written
 
-pub append_columns-t-requires-clause-k_bound : goal.append_columns-t-requires-clause-k_bound
-append_columns-t-requires-clause-k_bound c =
-    let room : length c.loop-i.store ≡ (form_of c.args.f).category_limit = omega (arith, c.requires.stores.0.results) in (
-      omega (arith, c.loop-i.invariant.bound),
-      room,
-      omega (arith, c.column_end-end.ensures.0),
-      omega (arith, c.column_end-end.ensures.1, c.requires.n_bound),
-      c.product.invariant.columns.tally.bound,
-    )
-
 pub product-preserved : goal.product-preserved
 product-preserved c =
     let add = c.append_columns-t in
@@ -93,7 +83,27 @@ product-preserved c =
     let alike = column_alike true a.c (form_of a.f) left left c.product.j c.column_end-end.result c.column_end-end.ensures.2 made.1 in
     going_more c.product.invariant l.invariant.fine c.column_end-end.ensures.1 made.2 alike (add.ensures each a.n made.0) add.auto.numbers add.auto.values
 
+pub append_columns-t-requires-clause-k_bound : goal.append_columns-t-requires-clause-k_bound
+append_columns-t-requires-clause-k_bound c =
+    let room : length c.loop-i.store ≡ (form_of c.args.f).category_limit = omega (arith, c.requires.stores.0.results) in (
+      omega (arith, c.loop-i.invariant.bound),
+      room,
+      omega (arith, c.column_end-end.ensures.0),
+      omega (arith, c.column_end-end.ensures.1, c.requires.n_bound),
+      c.product.invariant.columns.tally.bound,
+    )
+
 -- ---- how the loops are left
+
+-- code is 0, so that all columns are written
+pub returns : goal.returns
+returns c =
+    let o = c.product in
+    let within = going_within o.invariant whole_lists_nature c.requires.n_bound c.requires.stores.1 c.gather.ensures in
+    elim c.product-test.branch [
+      | else-product-test w ↦ (ended_gathered (going_done o.invariant w.code-is w.product-test.false) c.if-code-ne0.false c.gather.ensures, within)
+      | then-product-test+then-loop-i-test+in_default w ↦ absurd (omega (arith, w.code-is, c.if-code-ne0.false))
+    ]
 
 -- a value was refused, and so is the whole: a code that is not 0 comes of no other way out
 pub returns-then-code-ne0 : goal.returns-then-code-ne0
@@ -117,13 +127,3 @@ returns-then-code-ne0 c =
 
 pub gather-requires : goal.gather-requires
 gather-requires c = (c.requires.n_bound, c.product.invariant.columns.tally.bound)
-
--- code is 0, so that all columns are written
-pub returns : goal.returns
-returns c =
-    let o = c.product in
-    let within = going_within o.invariant whole_lists_nature c.requires.n_bound c.requires.stores.1 c.gather.ensures in
-    elim c.product-test.branch [
-      | else-product-test w ↦ (ended_gathered (going_done o.invariant w.code-is w.product-test.false) c.if-code-ne0.false c.gather.ensures, within)
-      | then-product-test+then-loop-i-test+in_default w ↦ absurd (omega (arith, w.code-is, c.if-code-ne0.false))
-    ]

@@ -16,20 +16,6 @@ returns c =
     let a = c.args in
     (step_left_refused (form_of a.f) a.c a.node a.left.now a.right.now c.check_sheet-k.ensures c.if-k-ne0.true, tt)
 
-returns-2 : tie.Need-returns-then-m-ne0
-returns-2 c =
-    let a = c.args in (
-      step_right_refused (form_of a.f) a.c a.node a.left.now a.right.now c.check_sheet-k.ensures c.if-k-ne0.false c.family-family.ensures
-          c.right_code-m.ensures c.if-m-ne0.true,
-      tt,
-    )
-
-step-unary-requires : tie.Need-step_unary-requires
-step-unary-requires c κs =
-    let a = c.args in
-    let e = sym c.family-family.ensures ∙ c.in-Unary.is in
-    ((was_read (form_of a.f) a.left.now c.check_sheet-k.ensures c.if-k-ne0.false, e), lent_alone (family_of a.c) e c.requires)
-
 -- both operands were read, and what the step was lent
 operands_read : (c : tie.Else-m-ne0) {m : Family} → c.family-family.result ≡ m → is_unary m ≡ false →
     let start = c.before.before.before.before.before.before.before.before.before.before.before in
@@ -50,6 +36,20 @@ operands_read c told two =
       ),
       c.requires,
     )
+
+returns-2 : tie.Need-returns-then-m-ne0
+returns-2 c =
+    let a = c.args in (
+      step_right_refused (form_of a.f) a.c a.node a.left.now a.right.now c.check_sheet-k.ensures c.if-k-ne0.false c.family-family.ensures
+          c.right_code-m.ensures c.if-m-ne0.true,
+      tt,
+    )
+
+step-unary-requires : tie.Need-step_unary-requires
+step-unary-requires c κs =
+    let a = c.args in
+    let e = sym c.family-family.ensures ∙ c.in-Unary.is in
+    ((was_read (form_of a.f) a.left.now c.check_sheet-k.ensures c.if-k-ne0.false, e), lent_alone (family_of a.c) e c.requires)
 
 step-pair-requires : tie.Need-step_pair-requires
 step-pair-requires c κs =
