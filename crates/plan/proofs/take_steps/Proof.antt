@@ -22,7 +22,6 @@ use Rattle.plan_form.proofs.FormLaws.{planned}
 use Rattle.plan.proofs.Taken.{steppable, walk_past, walk_more, walk_refused}
 use Rattle.plan_leaves.proofs.Leaves.{some_code, walk_none}
 use Rattle.plan.proofs.take_steps.Statement.{statement}
-use Rattle.plan.proofs.take_steps.Lts.{then-not-lent+else-may_use_stores, else-not-lent}
 use Rattle.plan.proofs.take_steps.Tie as tie
 
 abbrev invariant-loop : tie.invariant-loop-k
@@ -105,10 +104,8 @@ lent : (c : tie.Joined-not-lent invariant-loop decreases-loop) → let t = c.bef
     → Large narrow c.loop-k.us c.loop-k.bs c.loop-k.store c.loop-k.hints c.loop-k.first c.loop-k.second c.loop-k.scratch
 lent c h =
     let t = c.before.before.before.before in
-    elim c.if-not-lent.branch [
-      | then-not-lent+else-may_use_stores w ↦ absurd (subst T (sym h ∙ sym w.may_use_stores.ensures ∙ w.if-may_use_stores.false) tt)
-      | else-not-lent w ↦ large t w.if-not-lent.false
-    ]
+    let e : (start t).args.lent ≡ true = grind (arith, h, c.if-not-lent.branch) in
+    large t e
 
 node-count-requires : tie.Need-node_count-count-requires invariant-loop decreases-loop
 node-count-requires c κs = (planned c.args.plan.now c.requires.0.0.formed).sizes
@@ -145,11 +142,6 @@ loop-again c =
 
 may-use-stores-requires : tie.Need-may_use_stores-requires invariant-loop decreases-loop
 may-use-stores-requires c κs = turn c.before.before.before
-
-returns : tie.Need-returns-then-may_use_stores invariant-loop decreases-loop
-returns c =
-    let i = c.loop-k.invariant in
-    (sym i.2, (c.if-not-lent.true, i.0, i.1))
 
 step-on-requires : tie.Need-step_on-put-requires invariant-loop decreases-loop
 step-on-requires c κs =
@@ -222,7 +214,10 @@ take_steps_spec =
     (λ c. search rules)
     (λ c. search rules)
     (λ c. search rules)
-    returns
+    -- the stores are asked for
+    (λ c.
+    let i = c.loop-k.invariant in
+    (sym i.2, (c.if-not-lent.true, i.0, i.1)))
     step-on-requires
     (λ c κs. search rules)
     (λ c. search rules)
