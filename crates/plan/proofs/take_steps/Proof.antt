@@ -1,15 +1,12 @@
 -- `plan::take_steps` meets its contract. The loop's invariant: the set's steps from k on, on the work buffer as it is, answer what those from `from` on answer on
 -- the work buffer as it was; and what is lent keeps its length. Assumes nothing.
-use mathlib.Core.Path.{◌≡◌, refl, sym, ap, subst, ◌∙◌}
+use mathlib.Core.Path.{◌≡◌, refl, sym, ap, ◌∙◌}
 use mathlib.Core.Bool.{true}
 use mathlib.Core.List.{List}
-use mathlib.Core.Logic.{⊎_elim}
 use Prim.Native.Nat.{ℕ, ◌-◌, ◌≤◌, ◌<◌}
 use native.Mathlib.Omega.{arith}
-use lib.Dec.{T}
 use lib.ListN.{length}
 use borrow.Author.Rules.{rules}
-use borrow.Author.Tests.{not-true, not-false}
 use Rattle.base.specs.Form.{narrow}
 use Rattle.calls.specs.Single.{outcome}
 use Rattle.lending.specs.Code.{holds_categories}
