@@ -6,17 +6,16 @@ use mathlib.Core.Option.{Option, some, bind}
 use mathlib.Core.List.{List, ◌∷◌, ◌++◌}
 use native.Mathlib.Omega.{arith}
 use lib.ListN.{length, take, drop}
-use lib.Seq.{take_at, length-take-le}
+use lib.Seq.{take_at}
 use Rattle.calls.specs.Single as Single
-use Rattle.lines.specs.Bytes.{field_bytes, Puts, Within}
-use Rattle.lines.specs.declared.Held.{Held}
-use Rattle.lines.specs.declared.Held.TheVariants as H
+use Rattle.std.specs.Prelude as Std
+use Rattle.lines.specs.Bytes.{field_bytes, Puts}
 use Rattle.answers.specs.Texts.{filled}
 use Rattle.answers.specs.Answers.{Confirms}
 use Rattle.answers.specs.declared.Outcome.{Outcome}
 
-pub confirms : (o : Outcome) {d d' s s' : Option Single.Outcome} → d ≡ d' → s ≡ s' → Confirms o d' s' → Confirms o d s
-confirms o e f h = rw (e, f) h
+pub confirms : (r : Std.Option Outcome) {d d' s s' : Option Single.Outcome} → d ≡ d' → s ≡ s' → Std.IfSome r (λ o. Confirms o d' s') → Std.IfSome r (λ o. Confirms o d s)
+confirms r e f h = rw (e, f) h
 
 take_filled : (n m : ℕ) → n ≤ m → take n (filled m) ≡ filled n
 unfolding filled
@@ -28,9 +27,9 @@ pub part_filled : (n m : ℕ) {r : List ℕ} → n ≤ m → r ≡ filled m → 
 part_filled n m h e = sym (ap (take n) e ∙ take_filled n m h)
 
 -- a field's bytes, which were put at the start of a buffer
-module _ {t s : List ℕ} (f : t ≡ s) (d d' : List ℕ) {h : Held} {n : ℕ} (e : h ≡ H.Len n) (p : Puts h (field_bytes t) d d') where
-  puts : Puts (H.Len n) (field_bytes s) d d'
-  puts = subst (λ (l : List ℕ). Puts (H.Len n) (field_bytes l) d d') f (subst (λ (k : Held). Puts k (field_bytes t) d d') e p)
+module _ {t s : List ℕ} (f : t ≡ s) (d d' : List ℕ) {n : ℕ} (p : Puts (Std.Some n) (field_bytes t) d d') where
+  puts : Puts (Std.Some n) (field_bytes s) d d'
+  puts = subst (λ (l : List ℕ). Puts (Std.Some n) (field_bytes l) d d') f p
 
   pub bytes_told : field_bytes s ≡ some (take n d')
   bytes_told = puts.1 ∙ ap {B = Option (List ℕ)} some (sym (ap (take n) puts.3 ∙ take_at puts.0 (drop n d) n puts.2))
@@ -38,11 +37,3 @@ module _ {t s : List ℕ} (f : t ≡ s) (d d' : List ℕ) {h : Held} {n : ℕ} (
   pub bytes_stored : (code : ℕ) → bind (field_bytes s) (λ vs. some (Single.outcome code (length vs) (vs ++ drop (length vs) d))) ≡ some (Single.outcome code n d')
   unfolding bind
   bytes_stored code = rw (puts.1, puts.2, sym puts.3)
-
--- what was put is within its buffer
-module _ {h : Held} {n : ℕ} (e : h ≡ H.Len n) where
-  pub put_within : (m : ℕ) → Within h m → n ≤ m
-  put_within m w = subst (λ (k : Held). Within k m) e w
-
-  pub put_length : (d : List ℕ) → Within h (length d) → n ≡ length (take n d)
-  put_length d w = sym (length-take-le n d (put_within (length d) w))

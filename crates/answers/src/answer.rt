@@ -10,7 +10,6 @@ ghost use Rattle.answers.specs.Texts as Texts;
 ghost use Rattle.answers.specs.Answers.{Confirms};
 
 use crate::{Outcome, Said};
-use lines::Number;
 
 // The most bytes of a buffer that a line may ask for: what the most nodes take, as the list's largest work buffer does.
 pub const ROOM: usize = plan_form::NODE_LIMIT * plan_leaves::SLOT;
@@ -22,13 +21,14 @@ const FILL: u8 = 165;
 const VALUE_UNIT: u64 = 4294967296;
 
 // A field's number.
-pub(crate) fn number_at(line: &[u8], k: usize) -> Number
+pub(crate) fn number_at(line: &[u8], k: usize) -> Option<u32>
     ensures { result ≡ Texts.number_at k line.now }
 {
     lines::decimal(lines::field(line, k))
 }
 
 // The length stands beside, since lending a part needs it.
+#[tactic(auto, unfolding(crate::specs::Texts::filled))]
 pub(crate) fn filled() -> [u8; ROOM]
     ensures node_limit_value { Walk.slot_at narrow node_limit ≡ length result }
     ensures value { result ≡ Texts.filled (Walk.slot_at narrow node_limit) }
@@ -52,13 +52,7 @@ pub fn value_of(reply: u64) -> u64
 fn agrees(reply: u64, lent: &[u8], code: u32, value: u64, expected: &[u8]) -> bool
     ensures { (result ≡ true → replied reply lent.now ≡ outcome code value expected.now) × (replied reply lent.now ≡ outcome code value expected.now → result ≡ true) }
 {
-    if code_of(reply) != code as u64 {
-        return false;
-    }
-    if value_of(reply) != value {
-        return false;
-    }
-    check::same(lent, expected)
+    code_of(reply) == u64::from(code) && value_of(reply) == value && lent == expected
 }
 
 // They agree where the list has what the gate answered: code, value and every byte.
@@ -73,7 +67,8 @@ pub(crate) fn compared(
     ensures { Confirms result (some (replied reply lent.now)) (some (outcome code value expected.now)) }
 {
     if agrees(reply, lent, code, value, expected) {
-        return Outcome::Agrees(said);
+        Outcome::Agrees(said)
+    } else {
+        Outcome::Differs(said, reply)
     }
-    Outcome::Differs(said, reply)
 }

@@ -5,14 +5,18 @@ mod answer; // what the gate answers, held against the list
 mod single; // a line of the list of calls, and its call
 mod walk; // a line of the list of plans, and its plan call
 
-ghost use Rattle.std.specs.Prelude.{◌≡◌};
+ghost use Rattle.std.specs.Prelude.{◌≡◌, IfSome};
 ghost use Rattle.lines.specs.Fields.{is_comment};
 ghost use Rattle.answers.specs.Answers.{Confirms, Judged};
 ghost use Rattle.answers.specs.ListLine.{length_field, asks, stores, defined, stored};
 
 pub use answer::{code_of, value_of};
-use base::refusals;
-use lines::Number;
+use base::refusals::Refusal;
+
+// The numbers of the refusals that no node is at fault for.
+const MALFORMED: u32 = Refusal::Malformed as u32;
+
+const NO_ROOM: u32 = Refusal::NoRoom as u32;
 
 #[derive(Clone, Copy)]
 pub enum Stored {
@@ -48,15 +52,10 @@ impl Told {
     fn of_code(code: u32, node: u32, leaves: usize) -> Self {
         match code {
             0 => Told::Accepted,
-            refusals::MALFORMED => Told::Malformed,
-            refusals::NO_ROOM => Told::Short,
-            _ => {
-                if (node as usize) < leaves {
-                    Told::AtLeaf
-                } else {
-                    Told::Refused
-                }
-            }
+            MALFORMED => Told::Malformed,
+            NO_ROOM => Told::Short,
+            _ if (node as usize) < leaves => Told::AtLeaf,
+            _ => Told::Refused,
         }
     }
 }
@@ -78,8 +77,8 @@ pub enum Outcome {
     Differs(Said, u64),
 }
 
-fn on_lent(list: Stored, line: &[u8], lent: &mut [u8], expected: &mut [u8]) -> Outcome
-    ensures { Confirms result (asks list line.now lent.old) (stores list line.now expected.old) }
+fn on_lent(list: Stored, line: &[u8], lent: &mut [u8], expected: &mut [u8]) -> Option<Outcome>
+    ensures { IfSome result (λ o. Confirms o (asks list line.now lent.old) (stores list line.now expected.old)) }
 {
     match list {
         Stored::Calls => single::judged(line, lent, expected),
@@ -89,21 +88,23 @@ fn on_lent(list: Stored, line: &[u8], lent: &mut [u8], expected: &mut [u8]) -> O
 
 // Lent is a filled buffer of the length that the line tells. What is expected stands in another, so that every byte of which the line says nothing has
 // to be as it was.
+fn read(list: Stored, line: &[u8]) -> Option<Outcome>
+    ensures { IfSome result (λ o. Confirms o (defined list line.now) (stored list line.now)) }
+{
+    let n = answer::number_at(line, list.length_field())? as usize;
+    if answer::ROOM < n {
+        return None;
+    }
+    let mut lent = answer::filled();
+    let mut expected = answer::filled();
+    on_lent(list, line, &mut lent[..n], &mut expected[..n])
+}
+
 pub fn judged(list: Stored, line: &[u8]) -> Outcome
     ensures { Judged (is_comment line.now) result (defined list line.now) (stored list line.now) }
 {
     if lines::is_comment(line) {
         return Outcome::Comment;
     }
-    let told = answer::number_at(line, list.length_field());
-    let Number::Is(length) = told else {
-        return Outcome::Unread;
-    };
-    let n = length as usize;
-    if answer::ROOM < n {
-        return Outcome::Unread;
-    }
-    let mut lent = answer::filled();
-    let mut expected = answer::filled();
-    on_lent(list, line, &mut lent[..n], &mut expected[..n])
+    read(list, line).unwrap_or(Outcome::Unread)
 }

@@ -1,9 +1,9 @@
 // A line `component node left right out_len code result mark`, and the call that it asks for.
+ghost use Rattle.std.specs.Prelude.{IfSome};
 ghost use Rattle.answers.specs.Answers.{Confirms};
 ghost use Rattle.answers.specs.CallLine.{call_asks, call_stores, call_defined, call_stored};
 
 use crate::{Outcome, Said, Told, answer};
-use lines::{Held, Number};
 
 const FIELDS: usize = 8;
 
@@ -16,20 +16,11 @@ struct Call {
 }
 
 fn is_mark(s: &[u8]) -> bool {
-    if check::same(s, b"rust") {
-        return true;
-    }
-    if check::same(s, b"added") {
-        return true;
-    }
-    check::same(s, b"decided")
+    matches!(s, b"rust" | b"added" | b"decided")
 }
 
 fn in_form(line: &[u8]) -> bool {
-    if lines::fields(line) != FIELDS {
-        return false;
-    }
-    is_mark(lines::field(line, 7))
+    lines::fields(line) == FIELDS && is_mark(lines::field(line, 7))
 }
 
 // Reads the operands and the result, makes the call, and compares.
@@ -40,51 +31,30 @@ fn compared(
     right: &mut [u8],
     out: &mut [u8],
     expected: &mut [u8],
-) -> Outcome
-    ensures { Confirms result (call_asks line.now call.component call.node out.old) (call_stores line.now call.code expected.old) }
+) -> Option<Outcome>
+    ensures { IfSome result (λ o. Confirms o (call_asks line.now call.component call.node out.old) (call_stores line.now call.code expected.old)) }
 {
-    let a = lines::bytes_of(lines::field(line, 2), left);
-    let Held::Len(l) = a else {
-        return Outcome::Unread;
-    };
-    let b = lines::bytes_of(lines::field(line, 3), right);
-    let Held::Len(r) = b else {
-        return Outcome::Unread;
-    };
-    let c = lines::bytes_of(lines::field(line, 6), expected);
-    let Held::Len(len) = c else {
-        return Outcome::Unread;
-    };
+    let l = lines::bytes_of(lines::field(line, 2), left)?;
+    let r = lines::bytes_of(lines::field(line, 3), right)?;
+    let n = lines::bytes_of(lines::field(line, 6), expected)?;
     let reply = gate::propagate_property(call.component, call.node, &left[..l], &right[..r], out);
     let said = Said {
         component: call.component,
         told: Told::of_code(call.code, 0, 0),
     };
-    answer::compared(said, reply, out, call.code, len as u64, expected)
+    Some(answer::compared(said, reply, out, call.code, n as u64, expected))
 }
 
-pub(crate) fn judged(line: &[u8], out: &mut [u8], expected: &mut [u8]) -> Outcome
-    ensures { Confirms result (call_defined line.now out.old) (call_stored line.now expected.old) }
+pub(crate) fn judged(line: &[u8], out: &mut [u8], expected: &mut [u8]) -> Option<Outcome>
+    ensures { IfSome result (λ o. Confirms o (call_defined line.now out.old) (call_stored line.now expected.old)) }
 {
     if !in_form(line) {
-        return Outcome::Unread;
+        return None;
     }
-    let a = answer::number_at(line, 0);
-    let Number::Is(component) = a else {
-        return Outcome::Unread;
-    };
-    let b = answer::number_at(line, 1);
-    let Number::Is(node) = b else {
-        return Outcome::Unread;
-    };
-    let c = answer::number_at(line, 5);
-    let Number::Is(code) = c else {
-        return Outcome::Unread;
-    };
     let call = Call {
-        component,
-        node,
-        code,
+        component: answer::number_at(line, 0)?,
+        node: answer::number_at(line, 1)?,
+        code: answer::number_at(line, 5)?,
     };
     let mut left = io::buffer();
     let mut right = io::buffer();

@@ -1,7 +1,7 @@
 -- A loop over texts that must lie end to end, and that is not left early: what failed so far is a flag, and the next text starts where the last one ended.
 -- `Running` is its invariant: the flag, with what the rest decides from there on, is what the whole decides. Lengths are below 2 ^ 32, so that the starts of a
 -- sheet's texts stay far below 2 ^ 64. Assumes nothing.
-use Rattle.std.proofs.Common.{◌≡◌, ℕ, suc, ◌+◌, ◌-◌, ◌*◌, ◌/◌, ◌%◌, ◌^◌, ◌<◌, ◌≤◌, Bool, true, false, not, ◌&&◌, ◌||◌, eqb, List, sym, refl, ap, ◌∙◌, arith}
+use Rattle.std.proofs.Common.{◌≡◌, ℕ, suc, ◌+◌, ◌-◌, ◌*◌, ◌^◌, ◌<◌, ◌≤◌, Bool, true, false, not, ◌&&◌, ◌||◌, eqb, List, sym, refl, ap, ◌∙◌, arith}
 use native.Mathlib.Nat.{sub-zero}
 use Rattle.base.specs.Form.{Form, group_count, category_count, area_size}
 use Rattle.base.specs.Decode.{category_at, start_in, length_in}

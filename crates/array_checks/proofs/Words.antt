@@ -15,13 +15,12 @@ or_zero a b = go (eqb a 0) refl (eqb b 0) refl (bit_or a b) (bit_and a b) (or_ad
     go true e false f o n s l r = let h = eqb-true a 0 e in let k = eqb-false b 0 f in ne_eqb o 0 (λ z. k (omega arith))
     go false e u f o n s l r = let h = eqb-false a 0 e in ne_eqb o 0 (λ z. h (omega arith))
 
-pub two_more : (b x y : ℕ) → (not (eqb b 0) || not (eqb x 0 && eqb y 0)) ≡ not (eqb (bit_or (bit_or b x) y) 0)
-two_more b x y =
-    go (eqb b 0) (eqb x 0) (eqb y 0) ∙ sym (ap not (or_zero (bit_or b x) y ∙ ap (λ (t : Bool). t && eqb y 0) (or_zero b x)))
+pub two_more : (b x y : ℕ) → (not (eqb b 0) || not (eqb x 0 && eqb y 0)) ≡ not (eqb (bit_or b (bit_or x y)) 0)
+two_more b x y = go (eqb b 0) (eqb x 0 && eqb y 0) ∙ sym (ap not (or_zero b (bit_or x y) ∙ ap (λ (t : Bool). eqb b 0 && t) (or_zero x y)))
   where
-    go : (t u v : Bool) → (not t || not (u && v)) ≡ not ((t && u) && v)
-    go true u v = refl
-    go false u v = refl
+    go : (t u : Bool) → (not t || not u) ≡ not (t && u)
+    go true u = refl
+    go false u = refl
 
 -- w is m - 1, modulo 2 ^ 64
 pub end_word : (m v w : ℕ) → m < 256 → v < 2 ^ 64 → w < 2 ^ 64 → (w + 1) % 2 ^ 64 ≡ m

@@ -3,9 +3,8 @@
 
 ghost use Rattle.std.specs.Prelude.{◌≡◌, ◌+◌, ◌≤◌, not, ◌&&◌, ◌||◌, length, ◌==◌};
 ghost use Rattle.std.specs.Float.Ieee.Scale.{finite};
-ghost use Rattle.numbers.specs.Kind.{whole, float};
 ghost use Rattle.base.specs.Form.{form_of};
-ghost use Rattle.base.specs.Decode.{as_whole, as_float, end_at};
+ghost use Rattle.base.specs.Decode.{as_float, end_at};
 ghost use Rattle.base.specs.Checks.{holds_from, mark_permitted, number_permitted, lists_permitted, bool_permitted, end_to_end, crossed, unbounded};
 ghost use Rattle.base.specs.Sized.{RangeFits, ListsFit};
 ghost use Rattle.base.specs.Entries.{span_holds};
@@ -13,6 +12,7 @@ ghost use Rattle.array_checks.specs.Found.{EntryFaults};
 
 use base::form;
 use base::form::Form;
+use base::number::Number;
 
 // What a pass finds.
 #[derive(Clone, Copy)]
@@ -60,22 +60,14 @@ fn is_unbounded(s: &[u8], at: usize) -> bool
     (base::byte_at(s, at) != 0) & is_far(base::u64_at(s, at + 1))
 }
 
-fn whole_crossed(s: &[u8], lower: usize, upper: usize) -> bool
+#[tactic(auto, using(crate::proofs::Marked::crossed_is))]
+fn crossed<N: Number>(s: &[u8], lower: usize, upper: usize) -> bool
     requires { (lower + 9 ≤ length s.now) × (upper + 9 ≤ length s.now) }
-    ensures { result ≡ crossed whole (end_at as_whole lower s.now) (end_at as_whole upper s.now) }
+    ensures { result ≡ crossed N.kind (end_at N.read lower s.now) (end_at N.read upper s.now) }
 {
-    let a = base::i64_at(s, lower + 1);
-    let c = base::i64_at(s, upper + 1);
-    (base::byte_at(s, lower) != 0) & (base::byte_at(s, upper) != 0) & (c < a)
-}
-
-fn float_crossed(s: &[u8], lower: usize, upper: usize) -> bool
-    requires { (lower + 9 ≤ length s.now) × (upper + 9 ≤ length s.now) }
-    ensures { result ≡ crossed float (end_at as_float lower s.now) (end_at as_float upper s.now) }
-{
-    let a = base::f64_at(s, lower + 1);
-    let c = base::f64_at(s, upper + 1);
-    (base::byte_at(s, lower) != 0) & (base::byte_at(s, upper) != 0) & (c < a)
+    let a = N::at(s, lower + 1);
+    let c = N::at(s, upper + 1);
+    (base::byte_at(s, lower) != 0) & (base::byte_at(s, upper) != 0) & c.is_below(a)
 }
 
 // The entry whose ends stand at `lower` and `upper`.
@@ -84,9 +76,9 @@ fn span_fails(s: &[u8], floats: bool, lower: usize, upper: usize) -> bool
     ensures { result ≡ not (span_holds floats s.now lower upper) }
 {
     if floats {
-        return is_unbounded(s, lower) | is_unbounded(s, upper) | float_crossed(s, lower, upper);
+        return is_unbounded(s, lower) | is_unbounded(s, upper) | crossed::<f64>(s, lower, upper);
     }
-    whole_crossed(s, lower, upper)
+    crossed::<i64>(s, lower, upper)
 }
 
 // ---- 4 and 5 of a range
@@ -98,13 +90,11 @@ pub fn entry_faults(f: Form, s: &[u8], floats: bool, g: usize, n: usize) -> Faul
 {
     let mut bad: u64 = 0;
     let mut unordered = false;
-    let mut i = 0;
-    while i < n {
+    for i in 0..n {
         let lower = f.lower_at(g, i);
         let upper = f.upper_at(g, n, i);
-        bad = bad | end_fault(s, lower) | end_fault(s, upper);
-        unordered = unordered | span_fails(s, floats, lower, upper);
-        i += 1;
+        bad |= end_fault(s, lower) | end_fault(s, upper);
+        unordered |= span_fails(s, floats, lower, upper);
     }
     Faults {
         fields: bad != 0,
@@ -122,12 +112,10 @@ fn numbers_permitted(f: Form, s: &[u8], g: usize, n: usize, t: usize) -> bool
 {
     let mut fallen = false;
     let mut last = 0;
-    let mut i = 0;
-    while i < t {
+    for i in 0..t {
         let number = base::list_number(f, s, g, n, t, i);
-        fallen = fallen | (number < last);
+        fallen |= number < last;
         last = number;
-        i += 1;
     }
     !fallen & ((t == 0) | (last < n))
 }
@@ -138,10 +126,8 @@ fn bools_permitted(f: Form, s: &[u8], g: usize, n: usize, t: usize) -> bool
     ensures { result ≡ holds_from t 0 (bool_permitted (form_of f) s.now) }
 {
     let mut bad = false;
-    let mut i = 0;
-    while i < t {
-        bad = bad | (1 < base::u64_at(s, f.value_at(g, t, i)));
-        i += 1;
+    for i in 0..t {
+        bad |= 1 < base::u64_at(s, f.value_at(g, t, i));
     }
     !bad
 }
@@ -166,12 +152,10 @@ pub fn texts_permitted(f: Form, s: &[u8], g: usize, n: usize, t: usize) -> bool
 {
     let mut bad = false;
     let mut at: u64 = 0;
-    let mut i = 0;
-    while i < t {
+    for i in 0..t {
         let v = base::u64_at(s, f.value_at(g, t, i));
-        bad = bad | (v % 0x1_0000_0000 != at);
+        bad |= v % 0x1_0000_0000 != at;
         at += v / 0x1_0000_0000;
-        i += 1;
     }
     !bad & (at == base::area_size(f, s) as u64)
 }

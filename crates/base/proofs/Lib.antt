@@ -11,3 +11,4 @@ pub mod Permitted
 pub mod Natures
 pub mod Lists
 pub mod EndToEnd
+pub mod Told

@@ -8,10 +8,8 @@ use Rattle.base.specs.Decode.{end_at, as_whole, as_float}
 use Rattle.base.specs.Encode.{end_bytes, whole_bits, float_bits}
 use Rattle.base.specs.declared.Bound.{Bound}
 use Rattle.base.specs.declared.Bound.TheVariants as B
-use Rattle.base.specs.declared.OptionI64.{OptionI64}
-use Rattle.base.specs.declared.OptionI64.TheVariants as I
-use Rattle.base.specs.declared.OptionU64.{OptionU64}
-use Rattle.base.specs.declared.OptionU64.TheVariants as U
+use Rattle.std.specs.declared.option.Option as Rust
+use Rattle.std.specs.declared.option.Option.TheVariants.{Some, None}
 use Rattle.base.specs.declared.Head.{Head}
 
 -- a bound as an end of a whole range, and of a float range
@@ -43,13 +41,10 @@ bound_bytes B.Absent = end_bytes whole_bits none
 bound_bytes (B.Whole z) = end_bytes whole_bits (some z)
 bound_bytes (B.Float x) = end_bytes float_bits (some x)
 
-abbrev pub signed_of : OptionI64 → Option ℤ
-signed_of I.Absent = none
-signed_of (I.Is z) = some z
-
-abbrev pub bits_in : OptionU64 → Option ℕ
-bits_in U.Absent = none
-bits_in (U.Is v) = some v
+-- a value that may be absent
+abbrev pub stated : {X : Type 0} → Rust.Option X → Option X
+stated None = none
+stated (Some x) = some x
 
 -- the fields that a head holds
 abbrev pub head_fields : Head → Fields
@@ -61,11 +56,11 @@ head_fields h = record {
   ordered = h.ordered;
   c_stability = h.c_stability;
   aggregator = h.aggregator;
-  rows = signed_of h.rows;
-  columns = bits_in h.columns;
-  dataset = signed_of h.dataset;
-  dimensionality = signed_of h.dimensionality;
-  sample = bits_in h.sample;
+  rows = stated h.rows;
+  columns = stated h.columns;
+  dataset = stated h.dataset;
+  dimensionality = stated h.dimensionality;
+  sample = stated h.sample;
 }
 
 -- 0 where nothing is refused, else the refusal's number

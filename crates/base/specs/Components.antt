@@ -4,8 +4,8 @@ use Rattle.base.specs.declared.Component.{Component}
 use Rattle.base.specs.declared.Component.TheVariants as C
 use Rattle.base.specs.declared.Family.{Family}
 use Rattle.base.specs.declared.Family.TheVariants as Fam
-use Rattle.base.specs.declared.Numbered.{Numbered}
-use Rattle.base.specs.declared.Numbered.TheVariants as N
+use Rattle.std.specs.declared.option.Option as Rust
+use Rattle.std.specs.declared.option.Option.TheVariants.{Some, None}
 
 -- 01: "Components are numbered 1 Abs, 2 Add, 3 Subtract, 4 Multiply, 5 Divide, 6 Modulo, 7 Log, 8 Power, 9 Negative". 02, S-1: "Component 10, Pool"
 abbrev pub number_of : Component → ℕ
@@ -20,19 +20,19 @@ number_of C.Power = 8
 number_of C.Negative = 9
 number_of C.Pool = 10
 
-unfoldable pub component_of : ℕ → Numbered
+unfoldable pub component_of : ℕ → Rust.Option Component
 component_of k =
-    cond (eqb k 1) (N.Is C.Abs)
-    (cond (eqb k 2) (N.Is C.Add)
-    (cond (eqb k 3) (N.Is C.Subtract)
-    (cond (eqb k 4) (N.Is C.Multiply)
-    (cond (eqb k 5) (N.Is C.Divide)
-    (cond (eqb k 6) (N.Is C.Modulo)
-    (cond (eqb k 7) (N.Is C.Log)
-    (cond (eqb k 8) (N.Is C.Power)
-    (cond (eqb k 9) (N.Is C.Negative)
-    (cond (eqb k 10) (N.Is C.Pool)
-    N.Unlisted)))))))))
+    cond (eqb k 1) (Some C.Abs)
+    (cond (eqb k 2) (Some C.Add)
+    (cond (eqb k 3) (Some C.Subtract)
+    (cond (eqb k 4) (Some C.Multiply)
+    (cond (eqb k 5) (Some C.Divide)
+    (cond (eqb k 6) (Some C.Modulo)
+    (cond (eqb k 7) (Some C.Log)
+    (cond (eqb k 8) (Some C.Power)
+    (cond (eqb k 9) (Some C.Negative)
+    (cond (eqb k 10) (Some C.Pool)
+    None)))))))))
 
 -- The families, the only table by them. Unary, 01: "Abs and Negative don't read the right sheet", "copy left but for nature". Pair: "Components 2 to 5 check
 -- in list order", and their fields are of both. Copy: "Modulo, Log and Power check 6, 7, 14, 15, 16, 11, ..", "6 to 8 copy left, but for nature, .."

@@ -4,6 +4,7 @@ pub mod Decode
 pub mod Encode
 pub mod Bounds
 pub mod Components
+pub mod Refusals
 pub mod Code
 pub mod Sized
 pub mod Checks

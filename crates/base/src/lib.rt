@@ -7,10 +7,11 @@ ghost use Rattle.octets.specs.Wrote.{Wrote};
 ghost use Rattle.base.specs.Form.{form_of, place, byte_at, nature_at, node_at, fields_end, area_size, length_called_for};
 ghost use Rattle.base.specs.Decode.{as_whole, as_float, as_bits, flag_at, field_at, list_number, fields_in};
 ghost use Rattle.base.specs.Components.{number_of, component_of, family_of, is_unary};
-ghost use Rattle.base.specs.Code.{bound_at, bound_bytes, signed_of, bits_in, head_fields};
+ghost use Rattle.base.specs.Code.{bound_at, bound_bytes, stated, head_fields};
 ghost use Rattle.base.specs.Sized.{SizesIn, ListsFit};
 
 pub mod form; // the stored forms: limits, places and numbers
+pub mod number; // the element kind, for the code that serves both
 pub mod refusals; // their numbers
 mod view; // one view of a sheet's bytes
 
@@ -24,20 +25,6 @@ pub enum Bound {
     Float(f64),
 }
 
-// A value of 64 signed bits that may be absent.
-#[derive(Clone, Copy)]
-pub enum OptionI64 {
-    Absent,
-    Is(i64),
-}
-
-// A value of 64 bits that may be absent.
-#[derive(Clone, Copy)]
-pub enum OptionU64 {
-    Absent,
-    Is(u64),
-}
-
 // The fields of one value.
 #[derive(Clone, Copy)]
 pub struct Head {
@@ -48,11 +35,11 @@ pub struct Head {
     pub ordered: bool,
     pub c_stability: u32,
     pub aggregator: u32,
-    pub rows: OptionI64,
-    pub columns: OptionU64,
-    pub dataset: OptionI64,
-    pub dimensionality: OptionI64,
-    pub sample: OptionU64,
+    pub rows: Option<i64>,
+    pub columns: Option<u64>,
+    pub dataset: Option<i64>,
+    pub dimensionality: Option<i64>,
+    pub sample: Option<u64>,
 }
 
 // The sizes that a sheet begins with.
@@ -90,13 +77,7 @@ pub enum Family {
     Pool,
 }
 
-// What a number names: a component, or none.
-#[derive(Clone, Copy)]
-pub enum Numbered {
-    Is(Component),
-    Unlisted,
-}
-
+// 01: "associated constants of a Component type, with an associated function from number to component"; so no discriminants and no `TryFrom`.
 impl Component {
     pub const ABS: u32 = 1;
 
@@ -118,21 +99,21 @@ impl Component {
 
     pub const POOL: u32 = 10;
 
-    pub fn from_number(n: u32) -> Numbered
+    pub fn from_number(n: u32) -> Option<Component>
         ensures { result ≡ component_of n }
     {
         match n {
-            Component::ABS => Numbered::Is(Component::Abs),
-            Component::ADD => Numbered::Is(Component::Add),
-            Component::SUBTRACT => Numbered::Is(Component::Subtract),
-            Component::MULTIPLY => Numbered::Is(Component::Multiply),
-            Component::DIVIDE => Numbered::Is(Component::Divide),
-            Component::MODULO => Numbered::Is(Component::Modulo),
-            Component::LOG => Numbered::Is(Component::Log),
-            Component::POWER => Numbered::Is(Component::Power),
-            Component::NEGATIVE => Numbered::Is(Component::Negative),
-            Component::POOL => Numbered::Is(Component::Pool),
-            _ => Numbered::Unlisted,
+            Component::ABS => Some(Component::Abs),
+            Component::ADD => Some(Component::Add),
+            Component::SUBTRACT => Some(Component::Subtract),
+            Component::MULTIPLY => Some(Component::Multiply),
+            Component::DIVIDE => Some(Component::Divide),
+            Component::MODULO => Some(Component::Modulo),
+            Component::LOG => Some(Component::Log),
+            Component::POWER => Some(Component::Power),
+            Component::NEGATIVE => Some(Component::Negative),
+            Component::POOL => Some(Component::Pool),
+            _ => None,
         }
     }
 
@@ -176,12 +157,7 @@ impl Family {
     pub fn is_unary(self) -> bool
         ensures { result ≡ is_unary self }
     {
-        match self {
-            Family::Unary => true,
-            Family::Pair => false,
-            Family::Copy => false,
-            Family::Pool => false,
-        }
+        matches!(self, Family::Unary)
     }
 }
 
@@ -342,25 +318,25 @@ fn flag_in(f: Form, s: &[u8], k: usize) -> bool
 }
 
 // The signed 64 bits at k, where the mark is not 0.
-fn option_i64_in(f: Form, s: &[u8], mark: usize, k: usize) -> OptionI64
+fn option_i64_in(f: Form, s: &[u8], mark: usize, k: usize) -> Option<i64>
     requires { ((form_of f).arrays_at ≤ length s.now) × (mark < fields_end) × (k + 8 ≤ fields_end) }
-    ensures { signed_of result ≡ field_at (form_of f) s.now as_whole mark k }
+    ensures { stated result ≡ field_at (form_of f) s.now as_whole mark k }
 {
     if byte_in(f, s, mark) == 0 {
-        return OptionI64::Absent;
+        return None;
     }
-    OptionI64::Is(i64_in(f, s, k))
+    Some(i64_in(f, s, k))
 }
 
 // The 64 bits at k, where the mark is not 0.
-fn option_u64_in(f: Form, s: &[u8], mark: usize, k: usize) -> OptionU64
+fn option_u64_in(f: Form, s: &[u8], mark: usize, k: usize) -> Option<u64>
     requires { ((form_of f).arrays_at ≤ length s.now) × (mark < fields_end) × (k + 8 ≤ fields_end) }
-    ensures { bits_in result ≡ field_at (form_of f) s.now as_bits mark k }
+    ensures { stated result ≡ field_at (form_of f) s.now as_bits mark k }
 {
     if byte_in(f, s, mark) == 0 {
-        return OptionU64::Absent;
+        return None;
     }
-    OptionU64::Is(u64_in(f, s, k))
+    Some(u64_in(f, s, k))
 }
 
 pub fn read_head(f: Form, s: &[u8]) -> Head

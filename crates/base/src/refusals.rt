@@ -1,88 +1,101 @@
-// 01's and 02's numbers of the refusals. 25 is missing: no call gives it.
+// Why a call is refused, by 01's and 02's numbers. 25 is missing: no call gives it.
+ghost use Rattle.std.specs.Prelude.{◌≡◌};
+ghost use Rattle.base.specs.Refusals.{number_of};
 
-// The plan is malformed.
-pub const MALFORMED: u32 = 1;
+#[derive(Clone, Copy)]
+pub enum Refusal {
+    // The plan is malformed.
+    Malformed = 1,
 
-// The component is not 1 to 10.
-pub const NO_COMPONENT: u32 = 2;
+    // The component is not 1 to 10.
+    NoComponent = 2,
 
-// A size over its limit, or a length that the sizes do not call for.
-pub const SIZES: u32 = 3;
+    // A size over its limit, or a length that the sizes do not call for.
+    Sizes = 3,
 
-// A field without a permitted value.
-pub const FIELDS: u32 = 4;
+    // A field without a permitted value.
+    Fields = 4,
 
-// A float bound that is not finite, or a lower bound above its upper.
-pub const BOUNDS: u32 = 5;
+    // A float bound that is not finite, or a lower bound above its upper.
+    Bounds = 5,
 
-// An operand that is not releasable has an aggregator.
-pub const AGGREGATED: u32 = 6;
+    // An operand that is not releasable has an aggregator.
+    Aggregated = 6,
 
-// An operand that is not releasable has a sample proportion other than 1.
-pub const SAMPLED: u32 = 7;
+    // An operand that is not releasable has a sample proportion other than 1.
+    Sampled = 7,
 
-// Of two operands that are not releasable: their groups differ.
-pub const GROUPS: u32 = 8;
+    // Of two operands that are not releasable: their groups differ.
+    Groups = 8,
 
-// Their dataset ids differ.
-pub const DATASETS: u32 = 9;
+    // Their dataset ids differ.
+    Datasets = 9,
 
-// Their c-stabilities differ.
-pub const STABILITIES: u32 = 10;
+    // Their c-stabilities differ.
+    Stabilities = 10,
 
-// A column count is absent.
-pub const NO_COLUMNS: u32 = 11;
+    // A column count is absent.
+    NoColumns = 11,
 
-// The column counts differ and neither is 1.
-pub const COLUMNS: u32 = 12;
+    // The column counts differ and neither is 1.
+    Columns = 12,
 
-// The row counts clash.
-pub const ROWS: u32 = 13;
+    // The row counts clash.
+    Rows = 13,
 
-// The data types do not suit the component.
-pub const TYPES: u32 = 14;
+    // The data types do not suit the component.
+    Types = 14,
 
-// The bounds that Log, Modulo or Power read are of another kind, or one is absent.
-pub const BOUND_KINDS: u32 = 15;
+    // The bounds that Log, Modulo or Power read are of another kind, or one is absent.
+    BoundKinds = 15,
 
-// Those bounds break the component's condition.
-pub const CONDITION: u32 = 16;
+    // Those bounds break the component's condition.
+    Condition = 16,
 
-// One range is whole, the other float.
-pub const RANGE_KINDS: u32 = 17;
+    // One range is whole, the other float.
+    RangeKinds = 17,
 
-// A bound list has neither one entry nor one per output column.
-pub const UNEVEN_LIST: u32 = 18;
+    // A bound list has neither one entry nor one per output column.
+    UnevenList = 18,
 
-// Float categories are to be combined or mapped.
-pub const FLOAT_CATEGORIES: u32 = 19;
+    // Float categories are to be combined or mapped.
+    FloatCategories = 19,
 
-// A category operand has no lists.
-pub const NO_LISTS: u32 = 20;
+    // A category operand has no lists.
+    NoLists = 20,
 
-// The category kinds differ.
-pub const CATEGORY_KINDS: u32 = 21;
+    // The category kinds differ.
+    CategoryKinds = 21,
 
-// The component has no rule for this category kind.
-pub const NO_RULE: u32 = 22;
+    // The component has no rule for this category kind.
+    NoRule = 22,
 
-// Divide may meet zero.
-pub const MAY_MEET_ZERO: u32 = 23;
+    // Divide may meet zero.
+    MayMeetZero = 23,
 
-// Whole-number arithmetic leaves 64 signed bits, or a category divides by zero.
-pub const LEAVES_64_BITS: u32 = 24;
+    // Whole-number arithmetic leaves 64 signed bits, or a category divides by zero.
+    Leaves64Bits = 24,
 
-// More categories than a sheet holds.
-pub const OVER_THE_LIMIT: u32 = 26;
+    // More categories than a sheet holds.
+    OverTheLimit = 26,
 
-// The output or the work buffer is too short.
-pub const NO_ROOM: u32 = 27;
+    // The output or the work buffer is too short.
+    NoRoom = 27,
 
-// The result's text exceeds what a sheet holds.
-pub const TOO_MUCH_TEXT: u32 = 28;
+    // The result's text exceeds what a sheet holds.
+    TooMuchText = 28,
 
-// The number of category lists is neither one nor the output's column count.
-pub const LIST_COUNT: u32 = 29;
+    // The number of category lists is neither one nor the output's column count.
+    ListCount = 29,
 
-// The reader may not see the node.
-pub const NOT_SEEN: u32 = 30;
+    // The reader may not see the node.
+    NotSeen = 30,
+}
+
+impl Refusal {
+    pub fn number(self) -> u32
+        ensures { result ≡ number_of self }
+    {
+        self as u32
+    }
+}

@@ -1,53 +1,38 @@
--- When a range spans zero, by tests of one end; and what every entry is asked, number by number. Assumes nothing.
+-- What every entry is asked, number by number. Assumes nothing.
 use mathlib.Core.Path.{◌≡◌, refl}
-use mathlib.Core.Bool.{Bool, true, false, cond, ◌&&◌}
+use mathlib.Core.Bool.{Bool, true, false, cond}
 use mathlib.Core.List.{List}
-use mathlib.Core.Option.{Option, none, some}
 use Prim.Native.Nat.{ℕ}
 use lib.Dec.{eqb}
-use lib.Ieee.{Float}
 use borrow.Author.Tests.{ne_eqb}
-use Rattle.numbers.specs.Kind.{float, zero_float}
+use Rattle.numbers.specs.Kind.{whole, float}
 use Rattle.base.specs.Form.{Form, nature_at, byte_at, group_count, list_count}
 use Rattle.base.specs.Sheet.{absent, whole_range, float_range, whole_lists, bool_lists, float_lists, text_lists, is_whole_range}
 use Rattle.base.specs.Decode.{as_whole, as_float, as_bits, span_at, entries, lists, text_in, nature_in}
-use Rattle.base.specs.Bounds.{is_present, above, under, every_entry}
+use Rattle.base.specs.Bounds.{every_entry}
 use Rattle.base.specs.Checks.{holds_from}
 use Rattle.base.proofs.Holding.{every_from}
 use Rattle.bounds.specs.declared.Ask.{Ask}
-use Rattle.shape.specs.Fields.{spans_zero}
-use Rattle.bounds.specs.Asked.{whole_asked, float_asked, entry_asked}
-
--- by which of the ends are present
-pub spans_is :
-    (x y : Option Float)
-    → spans_zero x y
-    ≡ cond (is_present x) (cond (is_present y) (under float zero_float x && above float zero_float y) (above float zero_float x)) (cond (is_present y) (under float zero_float y) true)
-spans_is none none = refl
-spans_is none (some f) = refl
-spans_is (some d) none = refl
-spans_is (some d) (some f) = refl
-
--- ---- every entry
+use Rattle.bounds.specs.Asked.{asked, entry_asked}
 
 module _ (F : Form) (s : List ℕ) (ask : Ask) where
-  pub every_whole : every_entry (whole_asked ask) (float_asked ask) (whole_range (entries F s as_whole)) ≡ holds_from (list_count F s) 0 (entry_asked F ask false s)
+  pub every_whole : every_entry (asked whole ask) (asked float ask) (whole_range (entries F s as_whole)) ≡ holds_from (list_count F s) 0 (entry_asked F ask false s)
   unfolding every_entry entries
-  every_whole = every_from (whole_asked ask) (span_at F s as_whole (group_count F s) (list_count F s)) (list_count F s) 0
+  every_whole = every_from (asked whole ask) (span_at F s as_whole (group_count F s) (list_count F s)) (list_count F s) 0
 
-  pub every_float : every_entry (whole_asked ask) (float_asked ask) (float_range (entries F s as_float)) ≡ holds_from (list_count F s) 0 (entry_asked F ask true s)
+  pub every_float : every_entry (asked whole ask) (asked float ask) (float_range (entries F s as_float)) ≡ holds_from (list_count F s) 0 (entry_asked F ask true s)
   unfolding every_entry entries
-  every_float = every_from (float_asked ask) (span_at F s as_float (group_count F s) (list_count F s)) (list_count F s) 0
+  every_float = every_from (asked float ask) (span_at F s as_float (group_count F s) (list_count F s)) (list_count F s) 0
 
   -- what is no range passes nothing
-  pub no_range_asked : (byte_at F nature_at s ≡ 1 → ⊥) → (byte_at F nature_at s ≡ 2 → ⊥) → every_entry (whole_asked ask) (float_asked ask) (nature_in F s) ≡ false
+  pub no_range_asked : (byte_at F nature_at s ≡ 1 → ⊥) → (byte_at F nature_at s ≡ 2 → ⊥) → every_entry (asked whole ask) (asked float ask) (nature_in F s) ≡ false
   unfolding nature_in every_entry
   no_range_asked x y =
       let k = byte_at F nature_at s in
       rw (ne_eqb k 1 x, ne_eqb k 2 y) (go (eqb k 3) (eqb k 4) (eqb k 5) (eqb k 6))
     where
       go : (a b c d : Bool)
-          → every_entry (whole_asked ask) (float_asked ask) (cond a (whole_lists (lists F s as_whole)) (cond b (bool_lists (lists F s as_bits)) (cond c (float_lists (lists F s as_bits)) (cond d (text_lists (lists F s (text_in F s))) absent))))
+          → every_entry (asked whole ask) (asked float ask) (cond a (whole_lists (lists F s as_whole)) (cond b (bool_lists (lists F s as_bits)) (cond c (float_lists (lists F s as_bits)) (cond d (text_lists (lists F s (text_in F s))) absent))))
           ≡ false
       go true b c d = refl
       go false true c d = refl

@@ -7,6 +7,7 @@ use native.Mathlib.Omega.{arith}
 use lib.Dec.{eqb, leb, ltb}
 use borrow.Author.Tests.{ltb-true, eqb-false}
 use Rattle.utilities.specs.Lists.{list_from, every, any}
+use Rattle.numbers.specs.Kind.{whole, float}
 use Rattle.base.specs.Form.{Form, nature_at, byte_at, last_nature, group_count, list_count, category_count}
 use Rattle.base.specs.Sheet.{Nature}
 use Rattle.base.specs.Decode.{as_float, as_bits, list_number, category_at, list_at, prepended, entries, lists, nature_in}
@@ -18,7 +19,7 @@ use Rattle.base.proofs.Holding.{holds_both, every_from}
 use Rattle.base.proofs.Flags.{and_both}
 use Rattle.bounds.specs.declared.Ask.TheVariants as A
 use Rattle.shape.specs.Fields.{spans_zero, nan_or_zero, divisor_sets_nullity}
-use Rattle.bounds.specs.Asked.{whole_asked, float_asked, value_apart}
+use Rattle.bounds.specs.Asked.{asked, value_apart}
 
 -- ---- tests, number by number
 
@@ -127,13 +128,13 @@ module _ (F : Form) (s : List ℕ) where
       ∙ any_not (λ l. any nan_or_zero l) (lists F s as_bits)
       ∙ ap not (none_of (lists F s as_bits) ∙ every_list F s (group_count F s) t (list_count F s) (λ v. not (nan_or_zero v)) (numbers_below h e))
 
-  pub range_sets_nullity : byte_at F nature_at s ≡ 2 → divisor_sets_nullity (nature_in F s) ≡ not (every_entry (whole_asked A.Apart) (float_asked A.Apart) (nature_in F s))
+  pub range_sets_nullity : byte_at F nature_at s ≡ 2 → divisor_sets_nullity (nature_in F s) ≡ not (every_entry (asked whole A.Apart) (asked float A.Apart) (nature_in F s))
   unfolding divisor_sets_nullity every_entry
   range_sets_nullity e =
       let k = nature_float_range F s e in
       ap divisor_sets_nullity k
-      ∙ any_not (λ r. spans_zero r.lower r.upper) (entries F s as_float)
-      ∙ sym (ap (λ (k : Nature). not (every_entry (whole_asked A.Apart) (float_asked A.Apart) k)) k)
+      ∙ any_not (λ r. spans_zero float r.lower r.upper) (entries F s as_float)
+      ∙ sym (ap (λ (k : Nature). not (every_entry (asked whole A.Apart) (asked float A.Apart) k)) k)
 
   neither : (k : ℕ) → k ≤ last_nature → byte_at F nature_at s ≡ k → (k ≡ 2 → ⊥) → (k ≡ 5 → ⊥) → divisor_sets_nullity (nature_in F s) ≡ eqb k 0
   unfolding divisor_sets_nullity

@@ -8,12 +8,12 @@ ghost use Rattle.base.specs.Sheet.{is_whole_range};
 ghost use Rattle.base.specs.Decode.{nature_in};
 ghost use Rattle.base.specs.Bounds.{is_present, above, under, every_entry, lowers_present, uppers_present, whole_lowers_present, lowers_positive, lowers_non_negative, all_suit_as_base};
 ghost use Rattle.base.specs.Checks.{holds_from, sizes_fail};
-ghost use Rattle.base.specs.Code.{whole_end, float_end};
 ghost use Rattle.base.specs.Sized.{RangeFits};
 ghost use Rattle.shape.specs.Fields.{spans_zero};
-ghost use Rattle.bounds.specs.Asked.{whole_asked, float_asked, entry_asked};
+ghost use Rattle.bounds.specs.Asked.{asked, entry_asked};
 
 use base::form::Form;
+use base::number::Number;
 use base::{Bound, form};
 
 pub mod zero; // the nullity that Divide adds
@@ -32,107 +32,57 @@ enum Ask {
 
 // ---- one end
 
-fn whole_present(b: Bound) -> bool
-    ensures { result ≡ is_present (whole_end b) }
+fn is_present<N: Number>(b: Bound) -> bool
+    ensures { result ≡ is_present (N.end b) }
 {
-    match b {
-        Bound::Absent => false,
-        Bound::Whole(_) => true,
-        Bound::Float(_) => false,
-    }
+    N::of(b).is_some()
 }
 
-fn whole_above(b: Bound, limit: i64) -> bool
-    ensures { result ≡ above whole limit (whole_end b) }
+fn is_above<N: Number>(b: Bound, limit: N) -> bool
+    ensures { result ≡ above N.kind limit (N.end b) }
 {
-    let Bound::Whole(z) = b else {
+    let Some(x) = N::of(b) else {
         return false;
     };
-    limit < z
+    limit.is_below(x)
 }
 
-fn whole_under(b: Bound, limit: i64) -> bool
-    ensures { result ≡ under whole limit (whole_end b) }
+fn is_under<N: Number>(b: Bound, limit: N) -> bool
+    ensures { result ≡ under N.kind limit (N.end b) }
 {
-    let Bound::Whole(z) = b else {
+    let Some(x) = N::of(b) else {
         return false;
     };
-    z < limit
-}
-
-fn float_present(b: Bound) -> bool
-    ensures { result ≡ is_present (float_end b) }
-{
-    match b {
-        Bound::Absent => false,
-        Bound::Whole(_) => false,
-        Bound::Float(_) => true,
-    }
-}
-
-fn float_above(b: Bound, limit: f64) -> bool
-    ensures { result ≡ above float limit (float_end b) }
-{
-    let Bound::Float(x) = b else {
-        return false;
-    };
-    limit < x
-}
-
-fn float_under(b: Bound, limit: f64) -> bool
-    ensures { result ≡ under float limit (float_end b) }
-{
-    let Bound::Float(x) = b else {
-        return false;
-    };
-    x < limit
+    x.is_below(limit)
 }
 
 // ---- one entry
 
-fn whole_asked(ask: Ask, lower: Bound, upper: Bound) -> bool
-    ensures { result ≡ whole_asked ask (span_of (whole_end lower) (whole_end upper)) }
+// Neither `d < 0 < f`, nor one end alone on the far side of 0, nor no end at all.
+fn apart<N: Number>(lower: Bound, upper: Bound) -> bool
+    ensures { result ≡ not (spans_zero N.kind (N.end lower) (N.end upper)) }
 {
-    match ask {
-        Ask::LowerPresent => whole_present(lower),
-        Ask::UpperPresent => whole_present(upper),
-        Ask::LowerPositive => whole_above(lower, 0),
-        Ask::LowerNonNegative => whole_present(lower) & !whole_under(lower, 0),
-        Ask::Base => (whole_above(lower, 0) & whole_under(upper, 1)) | whole_above(lower, 1),
-        Ask::Apart => true,
+    let zero = N::zero();
+    match (N::of(lower), N::of(upper)) {
+        (Some(d), Some(f)) => !(d.is_below(zero) & zero.is_below(f)),
+        (Some(d), None) => !zero.is_below(d),
+        (None, Some(f)) => !f.is_below(zero),
+        (None, None) => false,
     }
 }
 
-// Neither `lower < 0 < upper`, nor one end alone on the far side of 0, nor no end at all.
-fn apart(lower: Bound, upper: Bound) -> bool
-    ensures { result ≡ not (spans_zero (float_end lower) (float_end upper)) }
+fn asked<N: Number>(ask: Ask, lower: Bound, upper: Bound) -> bool
+    ensures { result ≡ asked N.kind ask (span_of (N.end lower) (N.end upper)) }
 {
-    let high = float_present(upper);
-    if float_present(lower) {
-        if high {
-            !(float_under(lower, 0.0) & float_above(upper, 0.0))
-        } else {
-            !float_above(lower, 0.0)
-        }
-    } else {
-        if high {
-            !float_under(upper, 0.0)
-        } else {
-            false
-        }
-    }
-}
-
-fn float_asked(ask: Ask, lower: Bound, upper: Bound) -> bool
-    ensures { result ≡ float_asked ask (span_of (float_end lower) (float_end upper)) }
-{
+    let zero = N::zero();
+    let one = N::one();
     match ask {
-        Ask::LowerPresent => float_present(lower),
-        Ask::UpperPresent => float_present(upper),
-        Ask::LowerPositive => float_above(lower, 0.0),
-        Ask::LowerNonNegative => float_present(lower) & !float_under(lower, 0.0),
-        Ask::Base => (float_above(lower, 0.0) & float_under(upper, 1.0)) | float_above(lower, 1.0),
-        Ask::Apart => apart(lower, upper),
+        Ask::LowerPresent => is_present::<N>(lower),
+        Ask::UpperPresent => is_present::<N>(upper),
+        Ask::LowerPositive => is_above(lower, zero),
+        Ask::LowerNonNegative => is_present::<N>(lower) & !is_under(lower, zero),
+        Ask::Base => (is_above(lower, zero) & is_under(upper, one)) | is_above(lower, one),
+        Ask::Apart => apart::<N>(lower, upper),
     }
 }
 
@@ -144,23 +94,22 @@ fn entry_asked(f: Form, s: &[u8], ask: Ask, floats: bool, g: usize, n: usize, i:
     let lower = base::bound_at(s, floats, f.lower_at(g, i));
     let upper = base::bound_at(s, floats, f.upper_at(g, n, i));
     if floats {
-        return float_asked(ask, lower, upper);
+        return asked::<f64>(ask, lower, upper);
     }
-    whole_asked(ask, lower, upper)
+    asked::<i64>(ask, lower, upper)
 }
 
 // ---- every entry
 
+#[tactic(auto, using(base::proofs::Holding::held))]
 fn entries_asked(f: Form, s: &[u8], ask: Ask, floats: bool, g: usize, n: usize) -> bool
     requires { RangeFits (form_of f) s.now g n }
     ensures { result ≡ holds_from n 0 (entry_asked (form_of f) ask floats s.now) }
 {
-    let mut i = 0;
-    while i < n {
+    for i in 0..n {
         if !entry_asked(f, s, ask, floats, g, n, i) {
             return false;
         }
-        i += 1;
     }
     true
 }
@@ -168,7 +117,7 @@ fn entries_asked(f: Form, s: &[u8], ask: Ask, floats: bool, g: usize, n: usize) 
 // Whether the sheet is a range whose every entry passes.
 fn every_entry(f: Form, s: &[u8], ask: Ask) -> bool
     requires { sizes_fail (form_of f) s.now ≡ false }
-    ensures { result ≡ every_entry (whole_asked ask) (float_asked ask) (nature_in (form_of f) s.now) }
+    ensures { result ≡ every_entry (asked whole ask) (asked float ask) (nature_in (form_of f) s.now) }
 {
     let sizes = base::sizes_at(f, s);
     let g = sizes.groups;
@@ -191,6 +140,7 @@ pub fn is_whole_range(f: Form, s: &[u8]) -> bool
 }
 
 // `lower_float` gives its list.
+#[tactic(auto, unfolding(base::specs::Bounds::lowers_present))]
 pub fn lowers_present(f: Form, s: &[u8]) -> bool
     requires { sizes_fail (form_of f) s.now ≡ false }
     ensures { result ≡ lowers_present (nature_in (form_of f) s.now) }
@@ -199,6 +149,7 @@ pub fn lowers_present(f: Form, s: &[u8]) -> bool
 }
 
 // `upper_float` gives its list.
+#[tactic(auto, unfolding(base::specs::Bounds::uppers_present))]
 pub fn uppers_present(f: Form, s: &[u8]) -> bool
     requires { sizes_fail (form_of f) s.now ≡ false }
     ensures { result ≡ uppers_present (nature_in (form_of f) s.now) }
@@ -207,6 +158,7 @@ pub fn uppers_present(f: Form, s: &[u8]) -> bool
 }
 
 // `lower_int` gives its list.
+#[tactic(auto, unfolding(base::specs::Bounds::whole_lowers_present))]
 pub fn whole_lowers_present(f: Form, s: &[u8]) -> bool
     requires { sizes_fail (form_of f) s.now ≡ false }
     ensures { result ≡ whole_lowers_present (nature_in (form_of f) s.now) }
@@ -214,6 +166,7 @@ pub fn whole_lowers_present(f: Form, s: &[u8]) -> bool
     is_whole_range(f, s) & lowers_present(f, s)
 }
 
+#[tactic(auto, unfolding(base::specs::Bounds::lowers_positive))]
 pub fn lowers_positive(f: Form, s: &[u8]) -> bool
     requires { sizes_fail (form_of f) s.now ≡ false }
     ensures { result ≡ lowers_positive (nature_in (form_of f) s.now) }
@@ -221,6 +174,7 @@ pub fn lowers_positive(f: Form, s: &[u8]) -> bool
     every_entry(f, s, Ask::LowerPositive)
 }
 
+#[tactic(auto, unfolding(base::specs::Bounds::lowers_non_negative))]
 pub fn lowers_non_negative(f: Form, s: &[u8]) -> bool
     requires { sizes_fail (form_of f) s.now ≡ false }
     ensures { result ≡ lowers_non_negative (nature_in (form_of f) s.now) }
@@ -228,6 +182,7 @@ pub fn lowers_non_negative(f: Form, s: &[u8]) -> bool
     every_entry(f, s, Ask::LowerNonNegative)
 }
 
+#[tactic(auto, unfolding(base::specs::Bounds::all_suit_as_base))]
 pub fn all_suit_as_base(f: Form, s: &[u8]) -> bool
     requires { sizes_fail (form_of f) s.now ≡ false }
     ensures { result ≡ all_suit_as_base (nature_in (form_of f) s.now) }

@@ -16,21 +16,20 @@ use base::{Component, form};
 fn nan_or_zero(x: f64) -> bool
     ensures { result ≡ (Ieee.is_nan x || Ieee.eq x zero_float) }
 {
-    (x != x) | (x == 0.0)
+    x.is_nan() | (x == 0.0)
 }
 
 // None of the t values is NaN or a zero, in whichever list it stands.
+#[tactic(auto, using(base::proofs::Holding::held))]
 fn values_apart(f: Form, s: &[u8], g: usize, n: usize, t: usize) -> bool
     requires { ListsFit (form_of f) s.now g n t }
     ensures { result ≡ holds_from t 0 (value_apart (form_of f) s.now) }
 {
-    let mut i = 0;
-    while i < t {
+    for i in 0..t {
         let x = base::f64_at(s, f.value_at(g, t, i));
         if nan_or_zero(x) {
             return false;
         }
-        i += 1;
     }
     true
 }
@@ -56,27 +55,14 @@ fn divisor_sets_nullity(f: Form, s: &[u8]) -> bool
 fn is_divide(c: Component) -> bool
     ensures { result ≡ is_divide c }
 {
-    match c {
-        Component::Abs => false,
-        Component::Add => false,
-        Component::Subtract => false,
-        Component::Multiply => false,
-        Component::Divide => true,
-        Component::Modulo => false,
-        Component::Log => false,
-        Component::Power => false,
-        Component::Negative => false,
-        Component::Pool => false,
-    }
+    matches!(c, Component::Divide)
 }
 
 // What the component adds to the nullity, s being the right sheet.
+#[tactic(auto, unfolding(shape::specs::Fields::adds_nullity))]
 pub fn adds_nullity(f: Form, c: Component, s: &[u8]) -> bool
     requires { (sizes_fail (form_of f) s.now ≡ false) × (fields_fail (form_of f) s.now ≡ false) }
     ensures { result ≡ adds_nullity c (nature_in (form_of f) s.now) }
 {
-    if is_divide(c) {
-        return divisor_sets_nullity(f, s);
-    }
-    false
+    is_divide(c) && divisor_sets_nullity(f, s)
 }

@@ -8,8 +8,8 @@ use Rattle.base.specs.Checks.{read}
 use Rattle.base.specs.Encode.{encode}
 use Rattle.base.specs.Components.{component_of, family_of, is_unary}
 use Rattle.base.specs.declared.Component.{Component}
-use Rattle.base.specs.declared.Numbered.{Numbered}
-use Rattle.base.specs.declared.Numbered.TheVariants as N
+use Rattle.std.specs.declared.option.Option as Rust
+use Rattle.std.specs.declared.option.Option.TheVariants as N
 use Rattle.shape.specs.Fields.{numbered}
 use Rattle.calls.specs.Derive.{derive}
 
@@ -43,9 +43,9 @@ delivery (refused k) out = outcome k 0 out
 delivery (ok vs) out = cond (leb (length vs) (length out)) (outcome 0 (length vs) (delivered out vs)) (outcome 27 0 out)
 
 -- 2: "The component is not 1 to 9"; 02, S-1: "Code 2 .. admit component 10"
-unfoldable pub single_of : Form → Numbered → ℕ → List ℕ → List ℕ → List ℕ → Outcome
-single_of F N.Unlisted node left right out = outcome 2 0 out
-single_of F (N.Is c) node left right out = delivery (step F c node left right) out
+unfoldable pub single_of : Form → Rust.Option Component → ℕ → List ℕ → List ℕ → List ℕ → Outcome
+single_of F N.None node left right out = outcome 2 0 out
+single_of F (N.Some c) node left right out = delivery (step F c node left right) out
 
 -- 01: "A single call takes a component, a node number (32 bits), two sheets and an output buffer"
 unfoldable pub single : Form → ℕ → ℕ → List ℕ → List ℕ → List ℕ → Outcome

@@ -13,9 +13,9 @@ ghost use Rattle.category_lists.specs.Columnwise.{Listed, each_from, column_of};
 ghost use Rattle.category_lists.specs.Answers.{Stores, Arrays};
 
 use base::form::Form;
-use base::{Component, form, refusals};
-use numbers::Checked;
-use writer::Derived;
+use base::refusals::Refusal;
+use base::{Component, form};
+use writer::Parts;
 
 // n columns in order, of each the pairs, left outer. The first pair that fails ends the whole product; too many categories refuse only when every pair has passed.
 fn products_into(
@@ -30,32 +30,29 @@ fn products_into(
     hints: &mut [u8],
     numbers: &mut [u8],
     values: &mut [u8],
-) -> Derived
+) -> Result<Parts, Refusal>
     requires listed { Listed (form_of f) left.now × ((list_count (form_of f) left.now ≡ 1 → ⊥) → n ≤ list_count (form_of f) left.now) × (family_of c ≡ Fam.Pair) }
     requires listed_2 { Listed (form_of f) right.now × ((list_count (form_of f) right.now ≡ 1 → ⊥) → n ≤ list_count (form_of f) right.now) }
     requires n_bound { n ≤ (form_of f).list_limit }
     requires stores { Stores (form_of f) us.old bs.old store.old hints.old × Arrays (form_of f) numbers.old values.old }
     ensures { (derived_in result numbers.new values.new ≡ in_writing (form_of f) (limited (form_of f).category_limit (each_from (column_of false eq_z (rule_of c) (lists (form_of f) left.now as_whole) (lists (form_of f) right.now as_whole)) n 0))) × Within (form_of f) (lists_room (form_of f)) numbers.new values.new result }
 {
-    let mut code: u32 = 0;
-    let mut t: usize = 0;
-    let mut j: usize = 0;
+    let mut refused = None;
+    let mut t = 0;
+    let mut j = 0;
+    // No `for`: a turn takes all columns from j up to end, which are alike.
     'product: while j < n {
         let l = category_lists::column_list(f, left, j, us, hints);
         let r = category_lists::column_list(f, right, j, bs, hints);
         utilities::clear_hints(hints);
-        let mut k: usize = 0;
-        let mut i: usize = 0;
-        while i < l {
-            let a = us[i];
-            i += 1;
-            let mut m: usize = 0;
-            while m < r {
-                let Checked::Fits(v) = category_lists::category(c, a, bs[m]) else {
-                    code = refusals::LEAVES_64_BITS;
+        let rights = &bs[..r];
+        let mut k = 0;
+        for &a in &us[..l] {
+            for &b in rights {
+                let Some(v) = category_lists::category(c, a, b) else {
+                    refused = Some(Refusal::Leaves64Bits);
                     break 'product;
                 };
-                m += 1;
                 k = category_lists::note_result(store, k, v, hints);
             }
         }
@@ -63,8 +60,8 @@ fn products_into(
         t = category_lists::append_columns(f, store, k, j, end, t, numbers, values);
         j = end;
     }
-    if code != 0 {
-        return Derived::Refused(code);
+    if let Some(refusal) = refused {
+        return Err(refusal);
     }
     category_lists::gather(f, form::WHOLE_LISTS, n, t)
 }
@@ -82,7 +79,7 @@ pub fn lists_pair(
     hints: &mut [u8],
     numbers: &mut [u8],
     values: &mut [u8],
-) -> Derived
+) -> Result<Parts, Refusal>
     requires listed { Listed (form_of f) left.now × Listed (form_of f) right.now × (0 < columns) × (columns ≤ (form_of f).column_limit) × (family_of c ≡ Fam.Pair) }
     requires stores { Stores (form_of f) us.old bs.old store.old hints.old × Arrays (form_of f) numbers.old values.old }
     ensures { (derived_in result numbers.new values.new ≡ in_writing (form_of f) (limited (form_of f).category_limit (combined eq_z (rule_of c) columns (lists (form_of f) left.now as_whole) (lists (form_of f) right.now as_whole)))) × Within (form_of f) (lists_room (form_of f)) numbers.new values.new result }

@@ -3,7 +3,7 @@ use mathlib.Core.Path.{◌≡◌, refl, sym, ap, ap₂, ◌∙◌}
 use mathlib.Core.Bool.{Bool, true, false, cond}
 use mathlib.Core.List.{List, [], ◌∷◌, ◌++◌, append_assoc, append-nil}
 use mathlib.Core.Logic.{⊎_elim}
-use Prim.Native.Nat.{ℕ, zero, suc, ◌+◌, ◌-◌, ◌<◌, ◌≤◌}
+use Prim.Native.Nat.{ℕ, zero, suc, ◌+◌, ◌-◌, ◌<◌, ◌≤◌, min}
 use native.Mathlib.Nat.{add-zero}
 use native.Mathlib.Omega.{arith}
 use lib.IntN.{ℤ}
@@ -24,23 +24,14 @@ use Rattle.category_lists.proofs.Operands.{lists_length, pick_only, pick_own}
 
 -- ---- the lesser of two counts
 
-pub lesser_left : (a b : ℕ) → a ≤ b → lesser_of a b ≡ a
+pub lesser_is : (a b : ℕ) → min a b ≡ lesser_of a b
 unfolding lesser_of
-lesser_left zero b h = refl
-lesser_left (suc a) zero h = absurd (omega arith)
-lesser_left (suc a) (suc b) h = ap suc (lesser_left a b (omega arith))
+lesser_is zero b = omega arith
+lesser_is (suc a) zero = omega arith
+lesser_is (suc a) (suc b) = omega (arith, lesser_is a b)
 
-pub lesser_right : (a b : ℕ) → b ≤ a → lesser_of a b ≡ b
-unfolding lesser_of
-lesser_right zero b h = omega arith
-lesser_right (suc a) zero h = refl
-lesser_right (suc a) (suc b) h = ap suc (lesser_right a b (omega arith))
-
-pub lesser_below : (a b : ℕ) → (lesser_of a b ≤ a) × (lesser_of a b ≤ b)
-unfolding lesser_of
-lesser_below zero b = (omega arith, omega arith)
-lesser_below (suc a) zero = (omega arith, omega arith)
-lesser_below (suc a) (suc b) = let r = lesser_below a b in (omega (arith, r.0), omega (arith, r.1))
+lesser_below : (a b : ℕ) → (lesser_of a b ≤ a) × (lesser_of a b ≤ b)
+lesser_below a b = (omega (arith, lesser_is a b), omega (arith, lesser_is a b))
 
 -- n of the columns that m lists have
 pub columns_within_lem : {k : ℕ} (columns m n : ℕ) → n ≤ spread_of columns m → columns ≤ k → m ≤ k → ((m ≡ 1 → ⊥) → n ≤ m) × (n ≤ k)
@@ -49,6 +40,20 @@ columns_within_lem {k} columns m n h c l = go (eqb m 1) refl h
     go : (b : Bool) → eqb m 1 ≡ b → n ≤ cond b columns m → ((m ≡ 1 → ⊥) → n ≤ m) × (n ≤ k)
     go true e h = (λ other. absurd (other (eqb-true m 1 e)), omega arith)
     go false e h = (λ other. h, omega arith)
+
+-- two operands' lists go together as far as the lesser of their columns, of which the code reads the two list counts ..
+pub columns_counted : (columns l r : ℕ) {l₀ r₀ a b n : ℕ} → a ≡ spread_of columns l₀ → l₀ ≡ l → b ≡ spread_of columns r₀ → r₀ ≡ r → n ≡ lesser_of a b
+    → n ≡ lesser_of (spread_of columns l) (spread_of columns r)
+columns_counted columns l r left lefts right rights least = least ∙ ap₂ lesser_of (left ∙ ap (spread_of columns) lefts) (right ∙ ap (spread_of columns) rights)
+
+-- .. and both operands have lists for them
+pub columns_reached : {k : ℕ} (columns l r n : ℕ) → n ≡ lesser_of (spread_of columns l) (spread_of columns r) → columns ≤ k → l ≤ k → r ≤ k
+    → ((l ≡ 1 → ⊥) → n ≤ l) × ((r ≡ 1 → ⊥) → n ≤ r) × (n ≤ k)
+columns_reached columns l r n e few left right =
+    let below = lesser_below (spread_of columns l) (spread_of columns r) in
+    let lefts = columns_within_lem columns l n (omega (arith, e, below.0)) few left in
+    let rights = columns_within_lem columns r n (omega (arith, e, below.1)) few right in
+    (lefts.0, rights.0, lefts.1)
 
 -- ---- rules by columns
 

@@ -26,12 +26,17 @@ use Rattle.base.specs.Encode.{joined, whole_bits, total, numbers_from, values_of
 use Rattle.base.specs.Sheet.{Nature, whole_lists}
 use Rattle.base.proofs.Lists.{joined_append}
 use Rattle.writer.specs.Written.{Written, written_of, in_writing, derived_in, lists_room, Within}
-use Rattle.writer.specs.declared.Derived.{Derived}
-use Rattle.writer.specs.declared.Derived.TheVariants as D
+use Rattle.std.specs.declared.result.Result.TheVariants as D
+use Rattle.base.specs.declared.refusals.Refusal.TheVariants.{OverTheLimit}
 use Rattle.category_lists.specs.Categories.{kept_to, limited}
 use Rattle.category_lists.specs.Columnwise.{each_from}
 use Rattle.category_lists.specs.Answers.{Arrays, Stored, Grown, gathered, lists_written, Tally, Columns}
 use Rattle.category_lists.proofs.Columnwise.{behind_none, from_ok, from_bad, from_end}
+use Rattle.writer.specs.declared.Parts.{Parts}
+use Rattle.std.specs.declared.option.Option as Rust
+use Rattle.std.specs.declared.option.Option.TheVariants.{Some, None}
+use Rattle.base.specs.Refusals.{number_of, Answer}
+use Rattle.base.specs.declared.refusals.Refusal.{Refusal}
 
 -- ---- the bytes of one list
 
@@ -62,14 +67,6 @@ module _ (xs : List ℤ) (i : ℕ) where
   list_none h = joined_none (λ v. le_bytes 8 (whole_bits v)) xs i h
 
 -- ---- a column's list, in the store
-
--- t categories and the list are too many
-pub stored_above : {k : ℕ} (t : ℕ) {limit : ℕ} {store xs : List ℤ} → Stored k store xs → length store ≡ limit → limit < t + k → limit < t + length xs
-stored_above {k} t {limit} {store} {xs} s size h = go (ltb (length store) k) refl
-  where
-    go : (b : Bool) → ltb (length store) k ≡ b → limit < t + length xs
-    go true e = omega (arith, s.exceeds (ltb-true (length store) k e), size)
-    go false e = let room = ltb-false (length store) k e in omega (arith, ap length (s.holds room), length-take-le k store room, h)
 
 pub stored_list : {k : ℕ} (store : List ℤ) → k ≤ length store → Stored k store (take k store)
 stored_list store room = record { holds = λ h. refl; exceeds = λ h. absurd (omega (arith, h, room)) }
@@ -167,7 +164,7 @@ module _ {F : Form} {t : ℕ} {numbers values : List ℕ} {done : List (List ℤ
       limit e = ap (λ (b : Bool). cond b (refused 26) whole) (sym e)
 
       go : (b : Bool) → ltb F.category_limit t ≡ b
-          → derived_in (cond b (D.Refused 26) (D.Nature (record { nature = nature; entries = n; values = t; text = 0; first = F.number_width * t; second = 8 * t }))) numbers values
+          → derived_in (cond b (D.Err OverTheLimit) (D.Ok (record { nature = nature; entries = n; values = t; text = 0; first = F.number_width * t; second = 8 * t }))) numbers values
           ≡ lists_written F nature (ok done)
       go true e = limit (lt-ltb F.category_limit (total done) (a.over (ltb-true F.category_limit t e)))
       go false e =
@@ -214,8 +211,13 @@ limited_written F (refused k) = refl
 
 -- ---- the loop over the columns, of products, of maps and of unions
 
-pub arrays_kept : {F : Form} {numbers₀ values₀ numbers values : List ℕ} → Arrays F numbers₀ values₀ → length numbers ≡ length numbers₀ → length values ≡ length values₀ → Arrays F numbers values
+arrays_kept : {F : Form} {numbers₀ values₀ numbers values : List ℕ} → Arrays F numbers₀ values₀ → length numbers ≡ length numbers₀ → length values ≡ length values₀ → Arrays F numbers values
 arrays_kept a n v = record { numbered = omega (arith, a.numbered, n); valued = omega (arith, a.valued, v) }
+
+-- the number of what was refused on the way, 0 where nothing was
+abbrev pub said : Rust.Option Refusal → ℕ
+said None = 0
+said (Some e) = number_of e
 
 -- j columns are done, and none was refused
 pub record Going (F : Form) (f : ℕ → Result (List ℤ)) (n : ℕ) (numbers₀ values₀ numbers values : List ℕ) (code t j : ℕ) : Type 0 where
@@ -231,10 +233,10 @@ gathered_within :
 unfolding gathered
 gathered_within {F} nature n t {numbers} {values} h rooms = by (ltb F.category_limit t) refl
   where
-    parts : Derived
-    parts = D.Nature (record { nature = nature; entries = n; values = t; text = 0; first = F.number_width * t; second = 8 * t })
+    parts : Answer Parts
+    parts = D.Ok (record { nature = nature; entries = n; values = t; text = 0; first = F.number_width * t; second = 8 * t })
 
-    by : (b : Bool) → ltb F.category_limit t ≡ b → Within F (lists_room F) numbers values (cond b (D.Refused 26) parts)
+    by : (b : Bool) → ltb F.category_limit t ≡ b → Within F (lists_room F) numbers values (cond b (D.Err OverTheLimit) parts)
     by true e = tt
     by false e =
         let few = ltb-false F.category_limit t e in
@@ -261,12 +263,12 @@ module _ {F : Form} {f : ℕ → Result (List ℤ)} {n : ℕ} {numbers₀ values
   going_done e h = let all : j ≡ n = omega (arith, g.within, h) in done (e ∙ g.fine) (rw all at g.columns)
 
   -- all are gathered, where none can be refused
-  pub going_gathered : (nature : ℕ) → n ≤ j → {r : Derived} → r ≡ gathered F nature n t → derived_in r numbers values ≡ lists_written F nature (each_from f n 0)
-  going_gathered nature h e = ap (λ (r : Derived). derived_in r numbers values) e ∙ columns_done g.columns nature (omega (arith, g.within, h))
+  pub going_gathered : (nature : ℕ) → n ≤ j → {r : Answer Parts} → r ≡ gathered F nature n t → derived_in r numbers values ≡ lists_written F nature (each_from f n 0)
+  going_gathered nature h e = ap (λ (r : Answer Parts). derived_in r numbers values) e ∙ columns_done g.columns nature (omega (arith, g.within, h))
 
   -- the parts that were gathered
-  pub going_within : (nature : ℕ) → n ≤ F.list_limit → Arrays F numbers₀ values₀ → {r : Derived} → r ≡ gathered F nature n t → Within F (lists_room F) numbers values r
-  going_within nature h rooms e = subst (λ (r : Derived). Within F (lists_room F) numbers values r) (sym e) (gathered_within nature n t h (arrays_kept rooms g.first g.second))
+  pub going_within : (nature : ℕ) → n ≤ F.list_limit → Arrays F numbers₀ values₀ → {r : Answer Parts} → r ≡ gathered F nature n t → Within F (lists_room F) numbers values r
+  going_within nature h rooms e = subst (λ (r : Answer Parts). Within F (lists_room F) numbers values r) (sym e) (gathered_within nature n t h (arrays_kept rooms g.first g.second))
 
   pub going_failed : {code' k : ℕ} → code' ≡ suc k → j < n → f j ≡ refused (suc k) → Ended F f n numbers values code' t
   going_failed e h r = failed (λ z. omega (arith, e, z)) (columns_refused g.columns h r ∙ ap refused (sym e))
@@ -277,6 +279,6 @@ module _ {F : Form} {f : ℕ → Result (List ℤ)} {n : ℕ} {numbers values : 
   ended_refused (failed e r) h = ap (λ (g : Result (List (List ℤ))). in_writing F (limited F.category_limit g)) (sym r)
 
   pub ended_gathered :
-      Ended F f n numbers values code t → code ≡ 0 → {r : Derived} → r ≡ gathered F whole_lists_nature n t → derived_in r numbers values ≡ in_writing F (limited F.category_limit (each_from f n 0))
-  ended_gathered (done e a) h g = ap (λ (r : Derived). derived_in r numbers values) g ∙ columns_done a whole_lists_nature refl ∙ limited_written F (each_from f n 0)
+      Ended F f n numbers values code t → code ≡ 0 → {r : Answer Parts} → r ≡ gathered F whole_lists_nature n t → derived_in r numbers values ≡ in_writing F (limited F.category_limit (each_from f n 0))
+  ended_gathered (done e a) h g = ap (λ (r : Answer Parts). derived_in r numbers values) g ∙ columns_done a whole_lists_nature refl ∙ limited_written F (each_from f n 0)
   ended_gathered (failed e r) h g = absurd (e h)

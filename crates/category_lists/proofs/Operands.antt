@@ -1,22 +1,19 @@
--- An operand's lists: what its sheet has room for, list j category by category, the list of a column, and what the code reads of it. Assumes nothing.
+-- An operand's lists: what its sheet has room for, list j category by category, and the list of a column. Assumes nothing.
 use mathlib.Core.Path.{◌≡◌, sym, ap, subst, ◌∙◌}
 use mathlib.Core.Bool.{cond}
 use mathlib.Core.List.{List, [], ◌∷◌, map}
 use Prim.Native.Nat.{ℕ, suc, ◌+◌, ◌-◌, ◌<◌, ◌≤◌}
 use native.Mathlib.Nat.{sub-zero}
 use native.Mathlib.Omega.{arith}
-use lib.IntN.{ℤ, pos}
+use lib.IntN.{ℤ}
 use lib.ListN.{length, take, get_or, length-map, get_or-map}
-use lib.Seq.{length-take-le, get_or-take}
 use lib.Dec.{eqb}
 use borrow.Author.Tests.{eq-eqb, ne_eqb}
-use Rattle.numbers.specs.Result.{Result}
-use Rattle.numbers.specs.Kind.{fitting, eq_z}
-use Rattle.numbers.specs.declared.Checked.{Checked}
+use Rattle.numbers.specs.Kind.{eq_z}
 use Rattle.utilities.specs.Lists.{noted, firsts_from, firsts}
 use Rattle.utilities.specs.Noted.{Begins}
 use Rattle.utilities.proofs.Built.{list_from_length, list_from_at}
-use Rattle.utilities.proofs.Begins.{begins_none, begins_note, begins_room}
+use Rattle.utilities.proofs.Begins.{begins_none, begins_note}
 use Rattle.base.specs.Form.{Form, group_count, list_count, category_count}
 use Rattle.base.specs.Decode.{list_number, category_at, list_at, lists}
 use Rattle.base.specs.Sized.{SizesIn, ListsFit}
@@ -115,14 +112,3 @@ pub pick_map : {X Y : Type 0} (f : X → Y) (ls : List (List X)) (j : ℕ) → p
 pick_map f ls j =
     ap (λ (n : ℕ). get_or (map (map f) ls) (cond (eqb n 1) 0 j) []) (length-map ls (map f))
     ∙ get_or-map (map f) ls (cond (eqb (length ls) 1) 0 j) []
-
--- ---- what the code reads of a list that stands at the start of a store
-
-module _ {values : List ℤ} {n : ℕ} {out₀ out : List ℤ} (b : Begins values n out₀ out) where
-  pub begun_length : length (take n out) ≡ n
-  begun_length = length-take-le n out (begins_room b)
-
--- the rule's answer on value i of a list, from the code's answer on what it read of it
-pub answered : (rule : ℤ → Result ℤ) (list : List ℤ) (n i : ℕ) {x : ℤ} (q : Checked) {o : Result ℤ}
-    → i < n → x ≡ get_or list i (pos 0) → fitting q ≡ rule x → fitting q ≡ o → rule (get_or (take n list) i (pos 0)) ≡ o
-answered rule list n i q h read e f = ap rule (get_or-take n list i (pos 0) h ∙ sym read) ∙ sym e ∙ f

@@ -5,9 +5,11 @@ use Rattle.utilities.specs.Noted.{hint_count}
 use Rattle.base.specs.Form.{Form}
 use Rattle.base.specs.Encode.{whole_bits, total, list_bytes, values_of, number_bytes, numbers_from}
 use Rattle.writer.specs.Written.{Written}
-use Rattle.writer.specs.declared.Derived.{Derived}
-use Rattle.writer.specs.declared.Derived.TheVariants as D
+use Rattle.base.specs.Refusals.{Answer}
+use Rattle.base.specs.declared.refusals.Refusal.TheVariants.{OverTheLimit}
+use Rattle.std.specs.declared.result.Result.TheVariants as D
 use Rattle.category_lists.specs.Columnwise.{each_from, behind}
+use Rattle.writer.specs.declared.Parts.{Parts}
 
 -- what the loops are lent: room for a list of each operand (a mapping has one, us twice), for as many results as a sheet may hold, and the hints
 pub record Stores (F : Form) (us bs store : List ℤ) (hints : List ℕ) : Type 0 where
@@ -44,10 +46,10 @@ module _ (F : Form) where
     pub second : r ≤ F.category_limit → take (8 * r) values' ≡ take (8 * t) values ++ list_bytes whole_bits xs
 
   -- n lists of t categories, of a nature, where the bytes stand in the two buffers. 26: "The result holds over 128 categories"
-  unfoldable pub gathered : ℕ → ℕ → ℕ → Derived
+  unfoldable pub gathered : ℕ → ℕ → ℕ → Answer Parts
   gathered nature n t =
-      cond (ltb F.category_limit t) (D.Refused 26)
-      (D.Nature (record { nature = nature; entries = n; values = t; text = 0; first = F.number_width * t; second = 8 * t }))
+      cond (ltb F.category_limit t) (D.Err OverTheLimit)
+      (D.Ok (record { nature = nature; entries = n; values = t; text = 0; first = F.number_width * t; second = 8 * t }))
 
   -- the same, of the lists themselves: lists of a nature in writing, their values as whole numbers
   abbrev pub lists_written : ℕ → Result (List (List ℤ)) → Result Written

@@ -15,37 +15,36 @@ ghost use Rattle.category_lists.specs.Columnwise.{Listed, Reaches, Alike, pick, 
 ghost use Rattle.category_lists.specs.Answers.{Arrays, Stored, Grown, Columns, gathered};
 
 use base::form::Form;
-use base::{Component, form, refusals};
-use numbers::Checked;
-use utilities::Noted;
-use writer::{Derived, Parts};
+use base::refusals::Refusal;
+use base::{Component, form};
+use writer::Parts;
 
 // ---- the rules
 
 // -2^63 has no magnitude in 64 signed bits.
-fn magnitude(a: i64) -> Checked
+fn magnitude(a: i64) -> Option<i64>
     ensures { fitting result ≡ abs_whole a }
 {
     if 0 <= a {
-        return Checked::Fits(a);
+        return Some(a);
     }
     numbers::checked_neg(a)
 }
 
 // The rule of Abs or Negative.
-pub fn mapping(c: Component, a: i64) -> Checked
+pub fn mapping(c: Component, a: i64) -> Option<i64>
     requires { family_of c ≡ Fam.Unary }
     ensures { fitting result ≡ rule_of c a a }
 {
     match c {
         Component::Abs => magnitude(a),
         Component::Negative => numbers::checked_neg(a),
-        _ => Checked::Leaves,
+        _ => None,
     }
 }
 
 // The rule of Add, Subtract, Multiply or Divide.
-pub fn category(c: Component, a: i64, b: i64) -> Checked
+pub fn category(c: Component, a: i64, b: i64) -> Option<i64>
     requires { family_of c ≡ Fam.Pair }
     ensures { fitting result ≡ rule_of c a b }
 {
@@ -54,7 +53,7 @@ pub fn category(c: Component, a: i64, b: i64) -> Checked
         Component::Subtract => numbers::checked_sub(a, b),
         Component::Multiply => numbers::checked_mul(a, b),
         Component::Divide => numbers::checked_div(a, b),
-        _ => Checked::Leaves,
+        _ => None,
     }
 }
 
@@ -70,21 +69,16 @@ fn list_into(f: Form, s: &[u8], j: usize, out: &mut [i64], hints: &mut [u8]) -> 
     let lists = sizes.lists;
     let t = sizes.categories;
     utilities::clear_hints(hints);
-    let mut n: usize = 0;
-    let mut i: usize = 0;
-    while i < t {
-        let number = base::list_number(f, s, g, lists, t, i);
-        let at = f.value_at(g, t, i);
-        i += 1;
-        if number != j {
-            continue;
+    let mut n = 0;
+    for i in 0..t {
+        if base::list_number(f, s, g, lists, t, i) == j {
+            let v = base::i64_at(s, f.value_at(g, t, i));
+            // There is room for every category of a sheet.
+            let Some(m) = utilities::note_hinted(out, n, v, hints) else {
+                return n;
+            };
+            n = m;
         }
-        let v = base::i64_at(s, at);
-        // There is room for every category of a sheet.
-        let Noted::At(m) = utilities::note_hinted(out, n, v, hints) else {
-            return n;
-        };
-        n = m;
     }
     n
 }
@@ -111,7 +105,7 @@ pub fn note_result(store: &mut [i64], k: usize, v: i64, hints: &mut [u8]) -> usi
     if store.len() < k {
         return k;
     }
-    let Noted::At(m) = utilities::note_hinted(store, k, v, hints) else {
+    let Some(m) = utilities::note_hinted(store, k, v, hints) else {
         return k + 1;
     };
     m
@@ -139,24 +133,22 @@ pub fn append_list(
     }
     let mut at = f.numbers_length(t);
     let mut place = form::VALUE_WIDTH * t;
-    let mut i: usize = 0;
-    while i < k {
+    for &v in &store[..k] {
         at = writer::put_number(f, numbers, at, j);
-        place = octets::put_i64(values, place, store[i]);
-        i += 1;
+        place = octets::put_i64(values, place, v);
     }
     t + k
 }
 
 // n lists of t categories, of a nature.
-pub fn gather(f: Form, nature: u8, n: usize, t: usize) -> Derived
+pub fn gather(f: Form, nature: u8, n: usize, t: usize) -> Result<Parts, Refusal>
     requires { (n ≤ (form_of f).list_limit) × (t ≤ (form_of f).category_limit + 1) }
     ensures { result ≡ gathered (form_of f) nature n t }
 {
     if f.category_limit() < t {
-        return Derived::Refused(refusals::OVER_THE_LIMIT);
+        return Err(Refusal::OverTheLimit);
     }
-    Derived::Nature(Parts {
+    Ok(Parts {
         nature,
         entries: n,
         values: t,
@@ -197,10 +189,8 @@ pub fn append_columns(
     ensures { (each : ℕ → Result (List ℤ)) (n : ℕ) (xs : List ℤ) → Stored k store.now xs → end ≤ n → ((i : ℕ) → j ≤ i → i < end → each i ≡ ok xs) → Columns (form_of f) each n j t numbers.old values.old → Columns (form_of f) each n end result numbers.new values.new }
 {
     let mut total = t;
-    let mut i = j;
-    while i < end {
+    for i in j..end {
         total = append_list(f, store, k, i, total, numbers, values);
-        i += 1;
     }
     total
 }
@@ -213,8 +203,9 @@ pub fn spread(columns: usize, n: usize) -> usize
 }
 
 // How far two operands' lists go together. Lists that 29 has passed go over all columns.
+#[tactic(auto, using(crate::proofs::Columnwise::lesser_is))]
 pub fn lesser(a: usize, b: usize) -> usize
     ensures { result ≡ lesser_of a b }
 {
-    if a < b { a } else { b }
+    a.min(b)
 }

@@ -7,10 +7,12 @@ ghost use Rattle.base.specs.Checks.{read, holds_from, sizes_fail, field_permitte
 ghost use Rattle.base.specs.Sized.{GroupsFit, ListsFit};
 ghost use Rattle.checks.specs.Found.{NatureFaults, tail_permitted, head_bytes, head_fault, around_text};
 ghost use Rattle.base.specs.Code.{code_of};
+ghost use Rattle.base.specs.Refusals.{code_in};
 
 use array_checks::Faults;
+use base::form;
 use base::form::Form;
-use base::{form, refusals};
+use base::refusals::Refusal;
 
 // ---- 3
 
@@ -117,16 +119,15 @@ fn key_permitted(f: Form, s: &[u8], g: usize, i: usize) -> bool
         & ((kind != form::BOOL_KEY) | (base::u64_at(s, at + 1) <= 1))
 }
 
+#[tactic(auto, using(base::proofs::Holding::held), unfolding(base::specs::Checks::groups_permitted))]
 fn groups_permitted(f: Form, s: &[u8], g: usize) -> bool
     requires { GroupsFit (form_of f) s.now g }
     ensures { result ≡ groups_permitted (form_of f) s.now }
 {
-    let mut i = 0;
-    while i < g {
+    for i in 0..g {
         if !key_permitted(f, s, g, i) {
             return false;
         }
-        i += 1;
     }
     true
 }
@@ -200,23 +201,23 @@ fn nature_faults(f: Form, s: &[u8]) -> Faults
 
 // ---- checks 3 to 5
 
-// 0, or the number of the first check of 3 to 5 that the sheet breaks.
-pub fn check_sheet(f: Form, s: &[u8]) -> u32
-    ensures { result ≡ code_of (read (form_of f) s.now) }
+// The first check of 3 to 5 that the sheet breaks.
+pub fn check_sheet(f: Form, s: &[u8]) -> Result<(), Refusal>
+    ensures { code_in result ≡ code_of (read (form_of f) s.now) }
 {
     if sizes_fail(f, s) {
-        return refusals::SIZES;
+        return Err(Refusal::Sizes);
     }
     if head_fails(f, s) {
-        return refusals::FIELDS;
+        return Err(Refusal::Fields);
     }
     // One pass finds both: 5 is answered where all of 4 has passed.
     let nature = nature_faults(f, s);
     if nature.fields {
-        return refusals::FIELDS;
+        return Err(Refusal::Fields);
     }
     if nature.bounds {
-        return refusals::BOUNDS;
+        return Err(Refusal::Bounds);
     }
-    0
+    Ok(())
 }

@@ -23,7 +23,7 @@ use Rattle.base.specs.Components.{component_of, family_of}
 use Rattle.base.specs.declared.Component.{Component}
 use Rattle.base.specs.declared.Family.{Family}
 use Rattle.base.specs.declared.Family.TheVariants as Fam
-use Rattle.base.specs.declared.Numbered.{Numbered}
+use Rattle.std.specs.declared.option.Option as Rust
 use Rattle.base.proofs.Passed.{Passed}
 use Rattle.base.proofs.Permitted.{permitted, columns_within_lem}
 use Rattle.shape.specs.Shape.{columns_of}
@@ -151,12 +151,12 @@ module _ (p work after : List ℕ) (a : Accepted p work after) where
         let r = sheet_of narrow p work after (right_of p k) in
         let e : derive narrow d.component l r ≡ ok d.sheet =
         ap₂ (λ (x y : Sheet). derive narrow d.component x y) (sheet_after a (left_of p k)) (sheet_after a (right_of p k)) ∙ d.derived in
-        let u = subst (λ (n : Numbered). Suits n l r) d.listed (h.components k b c) in
+        let u = subst (λ (n : Rust.Option Component). Suits n l r) d.listed (h.components k b c) in
         let side = row.side k in
         let good = step_good side narrow d.component l r d.sheet xs ys e g f (h.operand_columns k b c) u in
         let is = sheet_after a k ∙ d.is in
         subst
-        (λ (n : Numbered). Good (sheet_of narrow p work after k) (list_from (columns_of (sheet_of narrow p work after k).fields) 0 (λ j. exact_of side n (column_of xs j) (column_of ys j))))
+        (λ (n : Rust.Option Component). Good (sheet_of narrow p work after k) (list_from (columns_of (sheet_of narrow p work after k).fields) 0 (λ j. exact_of side n (column_of xs j) (column_of ys j))))
         (sym d.listed)
         (subst (λ (t : Sheet). Good t (step_of side d.component t xs ys)) (sym is) (good_numbered side d.component k d.sheet xs ys good))
 

@@ -20,7 +20,7 @@ use Rattle.base.specs.Components.{family_of, is_unary}
 use Rattle.base.specs.declared.Component.{Component}
 use Rattle.base.specs.declared.Family.{Family}
 use Rattle.base.specs.declared.Family.TheVariants as Fam
-use Rattle.base.specs.declared.Numbered.{Numbered}
+use Rattle.std.specs.declared.option.Option as Rust
 use Rattle.shape.specs.Shape.{columns_of}
 use Rattle.orders.specs.Orders.{unary_checks}
 use Rattle.calls.specs.Natures.{unary_nature}
@@ -85,7 +85,7 @@ module _ {p work after : List ℕ} (a : Accepted p work after) where
   counted_passes leaf c =
       let d = a.derives c.step c.behind c.within in
       let h = subst (λ (n : Nature). is_lists n ≡ true) (sym c.holds) refl in
-      spreads_own leaf c.step d (family_of d.component) refl h (subst (λ (n : Numbered). Spreads p sheet leaf c.step n) d.listed c.spreads)
+      spreads_own leaf c.step d (family_of d.component) refl h (subst (λ (n : Rust.Option Component). Spreads p sheet leaf c.step n) d.listed c.spreads)
 
   counted_whole : (leaf : ℕ) → Counted p sheet leaf → WholeNature (sheet leaf).nature (columns_of (sheet leaf).fields)
   counted_whole leaf c =

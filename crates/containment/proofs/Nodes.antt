@@ -17,7 +17,7 @@ use Rattle.utilities.specs.Lists.{list_from}
 use Rattle.utilities.proofs.Built.{list_from_length, list_from_at}
 use Rattle.base.specs.Sheet.{Sheet, Nature, absent, whole_range, float_range, whole_lists, bool_lists, float_lists, text_lists}
 use Rattle.base.specs.declared.Component.{Component}
-use Rattle.base.specs.declared.Numbered.TheVariants as N
+use Rattle.std.specs.declared.option.Option.TheVariants as N
 use Rattle.shape.specs.Shape.{columns_of}
 use Rattle.containment.specs.Exact.{Side, Results, column_of, exact_of}
 use Rattle.containment.specs.Demand.{InSpan, InList, Keeps, SpanOffZero, ListOffZero, OffZero, OneOrPerColumn}
@@ -115,11 +115,11 @@ module _ (side : Side) (c : Component) (l r s : Sheet) (xs ys : Results) (n : �
   pub good_step : Good l xs → Good r ys → s.fields.columns ≡ some n → 1 ≤ n → Derived side c n l.nature r.nature s.nature
       → ((j : ℕ) → j < n → Reaches (length xs) j) → ((j : ℕ) → j < n → Reaches (length ys) j) → ((j : ℕ) → j < n → Admitted c r.nature j)
       → Good s (step_of side c s xs ys)
-  good_step g h e o d p q k = good_made s n (λ j. exact_of side (N.Is c) (column_of xs j) (column_of ys j)) e o d.fits at
+  good_step g h e o d p q k = good_made s n (λ j. exact_of side (N.Some c) (column_of xs j) (column_of ys j)) e o d.fits at
     where
-      at : (j : ℕ) → j < n → (v : ℤ) × (exact_of side (N.Is c) (column_of xs j) (column_of ys j) ≡ some v) × Keeps s.nature j v
+      at : (j : ℕ) → j < n → (v : ℤ) × (exact_of side (N.Some c) (column_of xs j) (column_of ys j) ≡ some v) × Keeps s.nature j v
       at j i =
           let a = good_column g j (p j i) in
           let b = good_column h j (q j i) in
           let v = exact_exists side c a.0 b.0 (admitted_defined c r.nature j b.0 (k j i) b.2) in
-          (v.0, ap₂ (λ (x y : Option ℤ). exact_of side (N.Is c) x y) a.1 b.1 ∙ v.1, d.keeps j i a.0 b.0 v.0 (k j i) a.2 b.2 v.1)
+          (v.0, ap₂ (λ (x y : Option ℤ). exact_of side (N.Some c) x y) a.1 b.1 ∙ v.1, d.keeps j i a.0 b.0 v.0 (k j i) a.2 b.2 v.1)

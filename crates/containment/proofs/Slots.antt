@@ -21,8 +21,8 @@ use Rattle.base.specs.Decode.{decode}
 use Rattle.base.specs.Encode.{encode}
 use Rattle.base.specs.Components.{component_of, family_of}
 use Rattle.base.specs.declared.Component.{Component}
-use Rattle.base.specs.declared.Numbered.{Numbered}
-use Rattle.base.specs.declared.Numbered.TheVariants as N
+use Rattle.std.specs.declared.option.Option as Rust
+use Rattle.std.specs.declared.option.Option.TheVariants as N
 use Rattle.base.specs.declared.form.Form.TheVariants as Stored
 use Rattle.base.proofs.Forms.{laid}
 use Rattle.shape.specs.Fields.{numbered}
@@ -101,7 +101,7 @@ sheet_at k work = decode narrow (sheet_in narrow k work)
 -- node k's sheet in y is the one derived of its operands' sheets in x
 pub record Derives (p : List ℕ) (k : ℕ) (x y : List ℕ) : Type 0 where
   pub component : Component
-  pub listed : component_of (component_number p k) ≡ N.Is component
+  pub listed : component_of (component_number p k) ≡ N.Some component
   pub sheet : Sheet
   pub derived : derive narrow component (sheet_at (left_of p k) x) (sheet_at (right_of p k) x) ≡ ok sheet
   pub is : sheet_at k y ≡ numbered (family_of component) k sheet
@@ -126,7 +126,7 @@ module _ (p : List ℕ) (k : ℕ) (work : List ℕ) (small : k < 2 ^ 32) (room :
   abbrev out : List ℕ
   out = drop (slot_at narrow k) work
 
-  single_stepped : (c : Component) → component_of (component_number p k) ≡ N.Is c → (bytes : List ℕ) → Delivered (Written narrow_laid c left right k) out bytes
+  single_stepped : (c : Component) → component_of (component_number p k) ≡ N.Some c → (bytes : List ℕ) → Delivered (Written narrow_laid c left right k) out bytes
       → Stepped p k work (front ++ bytes)
   single_stepped c e bytes d =
       let w = d.made in
@@ -143,11 +143,11 @@ module _ (p : List ℕ) (k : ℕ) (work : List ℕ) (small : k < 2 ^ 32) (room :
         size = omega (arith, d.fits, length-append front bytes, length-drop (length d.bytes) out, length-drop (slot_at narrow k) work);
       }
 
-  by_component : (n : Numbered) → component_of (component_number p k) ≡ n → (single_of narrow n k left right out).code ≡ 0
+  by_component : (n : Rust.Option Component) → component_of (component_number p k) ≡ n → (single_of narrow n k left right out).code ≡ 0
       → Stepped p k work (front ++ (single_of narrow n k left right out).bytes)
   unfolding single_of
-  by_component N.Unlisted h e = absurd (omega arith)
-  by_component (N.Is c) h e =
+  by_component N.None h e = absurd (omega arith)
+  by_component (N.Some c) h e =
       single_stepped c h _ (delivery_made (Written narrow_laid c left right k) (step narrow c k left right) out (step_gives narrow_laid c left right (λ z. l) (λ z. r) k small) e)
 
   pub step_made : (step_on narrow p k work).code ≡ 0 → Stepped p k work (step_on narrow p k work).bytes

@@ -13,7 +13,7 @@ use borrow.Author.Tests.{eqb-false}
 use Rattle.numbers.specs.Result.{Result, ok, refused}
 use Rattle.numbers.specs.Checked.{checked_of, quotient_of}
 use Rattle.numbers.specs.Kind.{Span, whole, fitting, lesser, greater, least, greatest, span_of}
-use Rattle.numbers.specs.declared.Checked.TheVariants.{Leaves}
+use Rattle.std.specs.declared.option.Option.TheVariants.{None}
 use Rattle.numbers.proofs.Laws.{exactly}
 use Rattle.numbers.proofs.Parts.{le_parts, parts_le, true_lt, false_lt, lt_true}
 use Rattle.numbers.proofs.Results.{ok_same, never, then_ok_inv}
@@ -194,7 +194,7 @@ pub quotient_inv : (a b : ℤ) {v : ℤ} → fitting (quotient_of a b) ≡ ok v 
 unfolding quotient_of
 quotient_inv a b e = go (eqb (nat_abs b) 0) refl e
   where
-    go : (t : Bool) {v : ℤ} → eqb (nat_abs b) 0 ≡ t → fitting (cond t Leaves (checked_of (quot_z a b))) ≡ ok v → (nat_abs b ≡ 0 → ⊥) × (v ≡ quot_z a b)
+    go : (t : Bool) {v : ℤ} → eqb (nat_abs b) 0 ≡ t → fitting (cond t None (checked_of (quot_z a b))) ≡ ok v → (nat_abs b ≡ 0 → ⊥) × (v ≡ quot_z a b)
     go true h e = absurd (never (sym e))
     go false h e = (eqb-false (nat_abs b) 0 h, exactly (quot_z a b) e)
 

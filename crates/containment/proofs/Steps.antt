@@ -13,7 +13,7 @@ use Rattle.base.specs.Form.{Form}
 use Rattle.base.specs.Sheet.{Sheet, Nature}
 use Rattle.base.specs.declared.Component.{Component}
 use Rattle.base.specs.declared.Component.TheVariants as C
-use Rattle.base.specs.declared.Numbered.TheVariants as N
+use Rattle.std.specs.declared.option.Option.TheVariants as N
 use Rattle.shape.specs.Shape.{columns_of, widest, rows_sum}
 use Rattle.orders.specs.Orders.{unary_checks, pair_checks, bound_checks, copy_checks, last_checks, pool_checks}
 use Rattle.shape.specs.Fields.{pair_fields, copy_fields, pool_fields, pair_sheet, copy_sheet, pool_sheet, unary_sheet}
@@ -164,7 +164,7 @@ divisor_off r ys h u j w =
 
 -- every column of the step has an exact result, and it keeps to what the derived sheet states
 pub step_good : (side : Side) (F : Form) (c : Component) (l r s : Sheet) (xs ys : Results) → derive F c l r ≡ ok s
-    → Good l xs → Good r ys → ColumnsMatch l r → Suits (N.Is c) l r → Good s (step_of side c s xs ys)
+    → Good l xs → Good r ys → ColumnsMatch l r → Suits (N.Some c) l r → Good s (step_of side c s xs ys)
 unfolding derive exact
 step_good side F C.Abs l r s xs ys e g h w u = unary_good side F C.Abs l r s xs ys g h w e (λ o. tt) (λ a b. refl) (λ j. tt)
 step_good side F C.Add l r s xs ys e g h w u = pair_good side F C.Add l r s xs ys g h w e (λ j i. tt)

@@ -11,12 +11,13 @@ use Rattle.base.specs.Components.{component_of, family_of}
 use Rattle.base.specs.declared.Component.TheVariants as C
 use Rattle.base.specs.declared.Family.{Family}
 use Rattle.base.specs.declared.Family.TheVariants as Fam
-use Rattle.base.specs.declared.Numbered.{Numbered}
-use Rattle.base.specs.declared.Numbered.TheVariants as N
+use Rattle.std.specs.declared.option.Option as Rust
+use Rattle.std.specs.declared.option.Option.TheVariants as N
 use Rattle.shape.specs.Shape.{columns_of}
 use Rattle.plan_form.specs.Form.{node_count, leaf_count, component_number, left_of, right_of}
 use Rattle.calls.specs.Walk.{sheet_in}
 use Rattle.containment.specs.Exact.{Row, result_at}
+use Rattle.base.specs.declared.Component.{Component}
 
 -- 01: "Column j goes by entry j or the only entry": the entry that a list states for column j, if it states one
 unfoldable pub entry_for {ℓ} : {X : Type ℓ} → List X → ℕ → Option X
@@ -88,9 +89,9 @@ module _ (p : List ℕ) (sheet : ℕ → Sheet) (leaf k : ℕ) where
   SpreadsBy Fam.Copy = ⊥
   SpreadsBy Fam.Pool = Combines
 
-  abbrev pub Spreads : Numbered → Type 0
-  Spreads N.Unlisted = ⊥
-  Spreads (N.Is c) = SpreadsBy (family_of c)
+  abbrev pub Spreads : Rust.Option Component → Type 0
+  Spreads N.None = ⊥
+  Spreads (N.Some c) = SpreadsBy (family_of c)
 
 -- 02, S-5: the containment rule "drops it for a leaf's categories where some step maps them, or combines them with categories, ..": 29 has counted the lists
 -- there
@@ -128,18 +129,18 @@ OffZero (text_lists ls) j = ⊥
 -- what a step's component asks of its operands' sheets: "let each Power have Int operands, and let each Divide's divisor sheet state a lower above 0, an
 -- upper below 0 or categories without 0 in every column". The demand's "let no Subtract join two ranges" is gone with 02, S-4: "a plan may subtract whole
 -- ranges and still keep its values inside what it states"
-abbrev pub Suits : Numbered → Sheet → Sheet → Type 0
-Suits N.Unlisted l r = Unit {0}
-Suits (N.Is C.Abs) l r = Unit {0}
-Suits (N.Is C.Add) l r = Unit {0}
-Suits (N.Is C.Subtract) l r = Unit {0}
-Suits (N.Is C.Multiply) l r = Unit {0}
-Suits (N.Is C.Divide) l r = (j : ℕ) → j < columns_of r.fields → OffZero r.nature j
-Suits (N.Is C.Modulo) l r = Unit {0}
-Suits (N.Is C.Log) l r = Unit {0}
-Suits (N.Is C.Power) l r = (l.fields.data_type ≡ int_type) × (r.fields.data_type ≡ int_type)
-Suits (N.Is C.Negative) l r = Unit {0}
-Suits (N.Is C.Pool) l r = Unit {0}
+abbrev pub Suits : Rust.Option Component → Sheet → Sheet → Type 0
+Suits N.None l r = Unit {0}
+Suits (N.Some C.Abs) l r = Unit {0}
+Suits (N.Some C.Add) l r = Unit {0}
+Suits (N.Some C.Subtract) l r = Unit {0}
+Suits (N.Some C.Multiply) l r = Unit {0}
+Suits (N.Some C.Divide) l r = (j : ℕ) → j < columns_of r.fields → OffZero r.nature j
+Suits (N.Some C.Modulo) l r = Unit {0}
+Suits (N.Some C.Log) l r = Unit {0}
+Suits (N.Some C.Power) l r = (l.fields.data_type ≡ int_type) × (r.fields.data_type ≡ int_type)
+Suits (N.Some C.Negative) l r = Unit {0}
+Suits (N.Some C.Pool) l r = Unit {0}
 
 -- of a plan's bytes and its nodes' sheets
 pub record Premises (p : List ℕ) (sheet : ℕ → Sheet) : Type 0 where

@@ -8,8 +8,8 @@ use Rattle.base.specs.Sheet.{Sheet}
 use Rattle.base.specs.Components.{component_of}
 use Rattle.base.specs.declared.Component.{Component}
 use Rattle.base.specs.declared.Component.TheVariants as C
-use Rattle.base.specs.declared.Numbered.{Numbered}
-use Rattle.base.specs.declared.Numbered.TheVariants as N
+use Rattle.std.specs.declared.option.Option as Rust
+use Rattle.std.specs.declared.option.Option.TheVariants as N
 use Rattle.shape.specs.Shape.{columns_of}
 use Rattle.category_lists.specs.Categories.{remainder}
 use Rattle.plan_form.specs.Form.{node_count, leaf_count, component_number, left_of, right_of}
@@ -46,11 +46,11 @@ exact side C.Negative a b = some (neg_ℤ a)
 exact side C.Pool a b = some (taken side a b)
 
 -- 01: "an operand without a result leaves none"
-abbrev pub exact_of : Side → Numbered → Option ℤ → Option ℤ → Option ℤ
-exact_of side N.Unlisted x y = none
-exact_of side (N.Is c) none y = none
-exact_of side (N.Is c) (some a) none = none
-exact_of side (N.Is c) (some a) (some b) = exact side c a b
+abbrev pub exact_of : Side → Rust.Option Component → Option ℤ → Option ℤ → Option ℤ
+exact_of side N.None x y = none
+exact_of side (N.Some c) none y = none
+exact_of side (N.Some c) (some a) none = none
+exact_of side (N.Some c) (some a) (some b) = exact side c a b
 
 -- 01: "one whole number for each leaf column": by leaf and column; 02, S-1: "one operand for the whole row": by node, for all its columns
 pub record Row : Type 0 where

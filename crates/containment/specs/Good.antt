@@ -6,7 +6,7 @@ use Rattle.utilities.specs.Lists.{list_from}
 use Rattle.base.specs.Sheet.{Sheet, Nature, absent, whole_range, float_range, whole_lists, bool_lists, float_lists, text_lists}
 use Rattle.base.specs.declared.Component.{Component}
 use Rattle.base.specs.declared.Component.TheVariants as C
-use Rattle.base.specs.declared.Numbered.TheVariants as N
+use Rattle.std.specs.declared.option.Option.TheVariants as N
 use Rattle.shape.specs.Shape.{columns_of}
 use Rattle.containment.specs.Exact.{Side, Results, column_of, exact_of}
 use Rattle.containment.specs.Demand.{entry_for, Keeps, OneOrPerColumn, OffZero}
@@ -64,4 +64,4 @@ pub record Good (s : Sheet) (rs : Results) : Type 0 where
 
 -- the results of a step whose sheet is s, of its operands' results and, for Pool, the side that the row takes
 abbrev pub step_of : Side → Component → Sheet → Results → Results → Results
-step_of side c s xs ys = list_from (columns_of s.fields) 0 (λ j. exact_of side (N.Is c) (column_of xs j) (column_of ys j))
+step_of side c s xs ys = list_from (columns_of s.fields) 0 (λ j. exact_of side (N.Some c) (column_of xs j) (column_of ys j))

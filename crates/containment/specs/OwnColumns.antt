@@ -6,7 +6,7 @@ use Rattle.base.specs.Form.{narrow}
 use Rattle.base.specs.Sheet.{whole_lists, Sheet, is_lists}
 use Rattle.base.specs.Components.{component_of}
 use Rattle.base.specs.declared.Component.TheVariants as C
-use Rattle.base.specs.declared.Numbered.TheVariants as N
+use Rattle.std.specs.declared.option.Option.TheVariants as N
 use Rattle.shape.specs.Shape.{columns_of}
 use Rattle.plan_form.specs.Form.{component_number, left_of, right_of}
 use Rattle.step_laws.specs.Examples.{Plan, work}
@@ -53,7 +53,7 @@ pub record Outside (sheet : ℕ → Sheet) : Type 0 where
   pub other_columns : (sheet 2).fields.columns ≡ some 2
   -- .. and of the step
   pub operand_columns : ColumnsMatch (sheet 0) (sheet 1)
-  pub component : component_of (component_number sum_plan 2) ≡ N.Is C.Add
+  pub component : component_of (component_number sum_plan 2) ≡ N.Some C.Add
   -- the row is inside, and column 1 of node 2 has a result that does not keep to its sheet
   pub inside : Inside sum_plan sheet sum_row
   pub result : result_at sum_plan sheet sum_row 2 1 ≡ some (pos 1)

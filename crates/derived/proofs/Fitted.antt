@@ -18,7 +18,7 @@ use borrow.Author.Tests.{ltb-true, not-true}
 use Rattle.numbers.specs.Result.{Result, ok, refused}
 use Rattle.numbers.specs.Checked.{checked_of, quotient_of}
 use Rattle.numbers.specs.Kind.{Kind, Span, whole, float, fitting, lesser, greater, span_of}
-use Rattle.numbers.specs.declared.Checked.TheVariants.{Fits, Leaves}
+use Rattle.std.specs.declared.option.Option.TheVariants.{Some, None}
 use Rattle.base.specs.Form.{int_type}
 use Rattle.base.specs.declared.Component.{Component}
 use Rattle.base.specs.declared.Component.TheVariants as C
@@ -59,7 +59,7 @@ pub fitting_fits : (z : ℤ) → Gives Whole (fitting (checked_of z))
 unfolding checked_of
 fitting_fits z = go (ltb (mag z) (2 ^ 63)) refl
   where
-    go : (t : Bool) → ltb (mag z) (2 ^ 63) ≡ t → Gives Whole (fitting (cond t (Fits z) Leaves))
+    go : (t : Bool) → ltb (mag z) (2 ^ 63) ≡ t → Gives Whole (fitting (cond t (Some z) None))
     go true h = record { sfits = ltb-true (mag z) (2 ^ 63) h }
     go false h = omega arith
 
@@ -67,7 +67,7 @@ quotient_fits : (a b : ℤ) → Gives Whole (fitting (quotient_of a b))
 unfolding quotient_of
 quotient_fits a b = go (eqb (nat_abs b) 0)
   where
-    go : (t : Bool) → Gives Whole (fitting (cond t Leaves (checked_of (quot_z a b))))
+    go : (t : Bool) → Gives Whole (fitting (cond t None (checked_of (quot_z a b))))
     go true = omega arith
     go false = fitting_fits (quot_z a b)
 

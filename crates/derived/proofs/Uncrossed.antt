@@ -15,7 +15,7 @@ use borrow.Author.Tests.{not-false}
 use Rattle.numbers.specs.Result.{ok}
 use Rattle.numbers.specs.Checked.{checked_of}
 use Rattle.numbers.specs.Kind.{Span, span_of, whole, float, fitting}
-use Rattle.numbers.specs.declared.Checked.TheVariants.{Fits, Leaves}
+use Rattle.std.specs.declared.option.Option.TheVariants.{Some, None}
 use Rattle.numbers.proofs.Parts.{add_is, neg_is, sub_eq, lt_true, lt_false, true_lt, false_lt}
 use Rattle.utilities.specs.Lists.{every}
 use Rattle.base.specs.Form.{Form}
@@ -40,7 +40,7 @@ exact : (P : ℤ → Type 0) (z : ℤ) → P z → IfOk P (fitting (checked_of z
 unfolding checked_of
 exact P z p = go (ltb (mag z) (2 ^ 63))
   where
-    go : (t : Bool) → IfOk P (fitting (cond t (Fits z) Leaves))
+    go : (t : Bool) → IfOk P (fitting (cond t (Some z) None))
     go true = p
     go false = tt
 

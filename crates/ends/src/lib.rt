@@ -2,10 +2,16 @@
 #![tactic(auto)]
 
 ghost use Rattle.std.specs.Prelude.{◌≡◌};
-ghost use Rattle.base.specs.Code.{whole_end, float_end};
-ghost use Rattle.ends.specs.Code.{absent_ends, both_ends, two_of, whole_pair, float_pair};
+ghost use Rattle.numbers.specs.Result.{ok};
+ghost use Rattle.numbers.specs.Kind.{lesser, greater, least, greatest};
+ghost use Rattle.base.specs.Refusals.{told};
+ghost use Rattle.base.specs.Code.{stated};
+ghost use Rattle.ends.specs.Ends.{from_two};
+ghost use Rattle.ends.specs.Code.{absent_ends, both_ends, two_of, end_of};
 
 use base::Bound;
+use base::number::Number;
+use base::refusals::Refusal;
 
 // An entry of a range.
 #[derive(Clone, Copy)]
@@ -14,83 +20,89 @@ pub struct Range {
     pub upper: Bound,
 }
 
-// An end, or the number of the refusal.
-#[derive(Clone, Copy)]
-pub enum End {
-    Is(Bound),
-    Refused(u32),
-}
-
-// Both ends, or the number of the refusal.
-#[derive(Clone, Copy)]
-pub enum Ends {
-    Are(Range),
-    Refused(u32),
-}
-
-// Two whole numbers of which both are present.
-#[derive(Clone, Copy)]
-pub enum WholePair {
-    Both(i64, i64),
-    Missing,
-}
-
-// Two floats of which both are present.
-#[derive(Clone, Copy)]
-pub enum FloatPair {
-    Both(f64, f64),
-    Missing,
-}
-
-pub fn unknown() -> Ends
-    ensures { result ≡ absent_ends }
+pub fn unknown() -> Result<Range, Refusal>
+    ensures { told result ≡ absent_ends }
 {
-    let none = Range {
+    Ok(Range {
         lower: Bound::Absent,
         upper: Bound::Absent,
-    };
-    Ends::Are(none)
+    })
 }
 
 // The lower end's refusal comes first.
-pub fn both(lower: End, upper: End) -> Ends
-    ensures { result ≡ both_ends lower upper }
+pub fn both(lower: Result<Bound, Refusal>, upper: Result<Bound, Refusal>) -> Result<Range, Refusal>
+    ensures { told result ≡ both_ends (told lower) (told upper) }
 {
-    match lower {
-        End::Refused(k) => Ends::Refused(k),
-        End::Is(l) => match upper {
-            End::Refused(k) => Ends::Refused(k),
-            End::Is(u) => Ends::Are(Range { lower: l, upper: u }),
-        },
-    }
+    Ok(Range {
+        lower: lower?,
+        upper: upper?,
+    })
 }
 
-// Both ends of an entry of a whole range. A bound of the other kind counts as absent.
-pub fn whole_pair(x: Range) -> WholePair
-    ensures { whole_pair result ≡ two_of (whole_end x.lower) (whole_end x.upper) }
+// Both ends of an entry, by the `let .. else` of 01. A bound of the other kind counts as absent.
+pub fn pair<N: Number>(x: Range) -> Option<(N, N)>
+    ensures { stated result ≡ two_of (N.end x.lower) (N.end x.upper) }
 {
-    let lower = x.lower;
-    let upper = x.upper;
-    let Bound::Whole(a) = lower else {
-        return WholePair::Missing;
+    let Some(a) = N::of(x.lower) else {
+        return None;
     };
-    let Bound::Whole(c) = upper else {
-        return WholePair::Missing;
+    let Some(c) = N::of(x.upper) else {
+        return None;
     };
-    WholePair::Both(a, c)
+    Some((a, c))
 }
 
-// Both ends of an entry of a float range. A bound of the other kind counts as absent.
-pub fn float_pair(x: Range) -> FloatPair
-    ensures { float_pair result ≡ two_of (float_end x.lower) (float_end x.upper) }
+// ---- the lesser and the greater: of equal numbers the first is the lesser and the last the greater, which settles the sign of zero
+
+pub fn lesser<N: Number>(x: N, y: N) -> N
+    ensures { result ≡ lesser N.kind x y }
 {
-    let lower = x.lower;
-    let upper = x.upper;
-    let Bound::Float(a) = lower else {
-        return FloatPair::Missing;
+    if y.is_below(x) { y } else { x }
+}
+
+pub fn greater<N: Number>(x: N, y: N) -> N
+    ensures { result ≡ greater N.kind x y }
+{
+    if y.is_below(x) { x } else { y }
+}
+
+pub fn least<N: Number>(a: N, b: N, c: N, d: N) -> N
+    ensures { result ≡ least N.kind a b c d }
+{
+    lesser(lesser(lesser(a, b), c), d)
+}
+
+pub fn greatest<N: Number>(a: N, b: N, c: N, d: N) -> N
+    ensures { result ≡ greatest N.kind a b c d }
+{
+    greater(greater(greater(a, b), c), d)
+}
+
+// ---- Pool: the lesser lower and the greater upper, left's on a tie
+
+#[tactic(auto, unfolding(crate::specs::Ends::from_two))]
+pub fn pool_lower<N: Number>(x: Bound, y: Bound) -> Bound
+    ensures { ok result ≡ end_of N.bound (from_two (λ a d. ok (lesser N.kind a d)) (N.end x) (N.end y)) }
+{
+    let Some(a) = N::of(x) else {
+        return Bound::Absent;
     };
-    let Bound::Float(c) = upper else {
-        return FloatPair::Missing;
+    let Some(d) = N::of(y) else {
+        return Bound::Absent;
     };
-    FloatPair::Both(a, c)
+    lesser(a, d).bound()
+}
+
+// On a tie `greater` gives its second argument.
+#[tactic(auto, unfolding(crate::specs::Ends::from_two))]
+pub fn pool_upper<N: Number>(x: Bound, y: Bound) -> Bound
+    ensures { ok result ≡ end_of N.bound (from_two (λ c f. ok (greater N.kind f c)) (N.end x) (N.end y)) }
+{
+    let Some(c) = N::of(x) else {
+        return Bound::Absent;
+    };
+    let Some(f) = N::of(y) else {
+        return Bound::Absent;
+    };
+    greater(f, c).bound()
 }

@@ -4,9 +4,9 @@
 mod sheet; // operands
 mod show; // what bytes say
 
-use base::{Bound, Component, form};
-use sheet::Ends;
-use words::STDOUT;
+use base::{Bound, Component};
+use sheet::{Ends, Sheet, whole};
+use std::io::Result;
 
 // The node number of every call.
 const CALL_NODE: u32 = 9;
@@ -14,248 +14,209 @@ const CALL_NODE: u32 = 9;
 // What the length in a reply is multiplied by.
 const LENGTH_UNIT: u64 = 4294967296;
 
-// Makes a call, writes its operands and its answer, and answers the length of the derived sheet.
-fn derive(component: u32, left: &[u8], right: &[u8], out: &mut [u8]) -> usize {
-    words::component(component, b" ");
-    show::sheet(left);
-    if 0 < right.len() {
-        io::write_all(STDOUT, b", ");
-        show::sheet(right);
+// Makes a call, writes its operands and its answer, and gives the derived sheet.
+fn derive(rt: &impl Print, component: u32, left: &[u8], right: &[u8]) -> Result<Sheet> {
+    print!(rt; "{} ", words::component(component))?;
+    show::sheet(rt, left)?;
+    if !right.is_empty() {
+        print!(rt; ", ")?;
+        show::sheet(rt, right)?;
     }
-    let reply = gate::propagate_property(component, CALL_NODE, left, right, out);
-    let n = (reply / LENGTH_UNIT) as usize;
-    io::write_all(STDOUT, b" -> ");
-    if reply % LENGTH_UNIT == 0 {
-        show::sheet(show::front(out, n));
-    } else {
-        io::write_all(STDOUT, b"refused with ");
-        io::print_decimal(STDOUT, reply % LENGTH_UNIT);
+    let mut out = Sheet::zeros();
+    let reply = gate::propagate_property(component, CALL_NODE, left, right, &mut out.bytes);
+    out.len = (reply / LENGTH_UNIT) as usize;
+    print!(rt; " -> ")?;
+    match reply % LENGTH_UNIT {
+        0 => show::sheet(rt, out.as_slice())?,
+        code => print!(rt; "refused with {code}")?,
     }
-    n
+    Ok(out)
 }
 
-fn line_end() {
-    io::write_all(STDOUT, b"\n");
+fn line_end(rt: &impl Print) -> Result<()> {
+    println!(rt; "")
 }
 
 // Abs and Negative do not read the right sheet: it has no byte.
-fn alone(component: u32, e: Ends) {
-    let mut left = [0u8; form::NARROW_LONGEST];
-    let mut out = [0u8; form::NARROW_LONGEST];
-    let l = sheet::range(&mut left, e, 1);
-    derive(component, show::front(&left, l), b"", &mut out);
-    line_end();
+fn alone(rt: &impl Print, component: u32, left: Sheet) -> Result<()> {
+    derive(rt, component, left.as_slice(), b"")?;
+    line_end(rt)
 }
 
-fn pair(component: u32, e: Ends, f: Ends, columns: u8) {
-    let mut left = [0u8; form::NARROW_LONGEST];
-    let mut right = [0u8; form::NARROW_LONGEST];
-    let mut out = [0u8; form::NARROW_LONGEST];
-    let l = sheet::range(&mut left, e, columns);
-    let r = sheet::range(&mut right, f, columns);
-    derive(
-        component,
-        show::front(&left, l),
-        show::front(&right, r),
-        &mut out,
-    );
-    line_end();
+fn pair(rt: &impl Print, component: u32, left: Sheet, right: Sheet) -> Result<()> {
+    derive(rt, component, left.as_slice(), right.as_slice())?;
+    line_end(rt)
 }
 
 // A difference, and Abs of the sheet that it wrote.
-fn next_step(e: Ends, f: Ends) {
-    let mut left = [0u8; form::NARROW_LONGEST];
-    let mut right = [0u8; form::NARROW_LONGEST];
-    let mut out = [0u8; form::NARROW_LONGEST];
-    let mut last = [0u8; form::NARROW_LONGEST];
-    let l = sheet::range(&mut left, e, 1);
-    let r = sheet::range(&mut right, f, 1);
-    let n = derive(
-        Component::SUBTRACT,
-        show::front(&left, l),
-        show::front(&right, r),
-        &mut out,
-    );
-    line_end();
-    derive(Component::ABS, show::front(&out, n), b"", &mut last);
-    line_end();
+fn next_step(rt: &impl Print, left: Sheet, right: Sheet) -> Result<()> {
+    let difference = derive(rt, Component::SUBTRACT, left.as_slice(), right.as_slice())?;
+    line_end(rt)?;
+    alone(rt, Component::ABS, difference)
 }
 
-fn categories_alone(component: u32, a: i64, b: i64, lists: u8, columns: u8) {
-    let mut left = [0u8; form::NARROW_LONGEST];
-    let mut out = [0u8; form::NARROW_LONGEST];
-    let l = sheet::categories(&mut left, a, b, lists, columns);
-    derive(component, show::front(&left, l), b"", &mut out);
-    line_end();
+// Ranges of one column.
+fn ranges(rt: &impl Print, component: u32, e: Ends, f: Ends) -> Result<()> {
+    pair(rt, component, Sheet::range(e, 1), Sheet::range(f, 1))
 }
 
 // Two values on each side: `lists` lists on the left, one of 10 and 11 on the right.
-fn with_categories(component: u32, a: i64, b: i64, lists: u8, columns: u8) {
-    let mut left = [0u8; form::NARROW_LONGEST];
-    let mut right = [0u8; form::NARROW_LONGEST];
-    let mut out = [0u8; form::NARROW_LONGEST];
-    let l = sheet::categories(&mut left, a, b, lists, columns);
-    let r = sheet::categories(&mut right, 10, 11, 1, columns);
-    derive(
+fn with_categories(
+    rt: &impl Print,
+    component: u32,
+    a: i64,
+    b: i64,
+    lists: u8,
+    columns: u8,
+) -> Result<()> {
+    pair(
+        rt,
         component,
-        show::front(&left, l),
-        show::front(&right, r),
-        &mut out,
-    );
-    line_end();
+        Sheet::categories(a, b, lists, columns),
+        Sheet::categories(10, 11, 1, columns),
+    )
 }
 
 // A remainder keeps the node of its left operand.
-fn node_of_modulo() {
-    let mut left = [0u8; form::NARROW_LONGEST];
-    let mut right = [0u8; form::NARROW_LONGEST];
-    let mut out = [0u8; form::NARROW_LONGEST];
-    let l = sheet::range(&mut left, sheet::whole(0, 1), 1);
-    sheet::node(&mut left, 77);
-    let r = sheet::range(&mut right, sheet::whole(3, 8), 1);
-    let n = derive(
-        Component::MODULO,
-        show::front(&left, l),
-        show::front(&right, r),
-        &mut out,
-    );
-    io::write_all(STDOUT, b"; node ");
-    show::node(show::front(&left, l));
-    io::write_all(STDOUT, b" -> node ");
-    show::node(show::front(&out, n));
-    line_end();
+fn node_of_modulo(rt: &impl Print) -> Result<()> {
+    let left = Sheet::range(whole(0, 1), 1).with_node(77);
+    let right = Sheet::range(whole(3, 8), 1);
+    let out = derive(rt, Component::MODULO, left.as_slice(), right.as_slice())?;
+    print!(rt; "; node ")?;
+    show::node(rt, left.as_slice())?;
+    print!(rt; " -> node ")?;
+    show::node(rt, out.as_slice())?;
+    line_end(rt)
 }
 
 // Two private operands of one dataset, with other numbers of rows.
-fn rows_of_one_dataset() {
-    let mut left = [0u8; form::NARROW_LONGEST];
-    let mut right = [0u8; form::NARROW_LONGEST];
-    let mut out = [0u8; form::NARROW_LONGEST];
-    let l = sheet::range(&mut left, sheet::whole(1, 2), 1);
-    sheet::private(&mut left, 5);
-    let r = sheet::range(&mut right, sheet::whole(10, 20), 1);
-    sheet::private(&mut right, 3);
-    let n = derive(
-        Component::ADD,
-        show::front(&left, l),
-        show::front(&right, r),
-        &mut out,
-    );
-    io::write_all(STDOUT, b"; rows ");
-    show::rows(show::front(&left, l));
-    io::write_all(STDOUT, b" and ");
-    show::rows(show::front(&right, r));
-    io::write_all(STDOUT, b" -> rows ");
-    show::rows(show::front(&out, n));
-    line_end();
+fn rows_of_one_dataset(rt: &impl Print) -> Result<()> {
+    let left = Sheet::range(whole(1, 2), 1).private(5);
+    let right = Sheet::range(whole(10, 20), 1).private(3);
+    let out = derive(rt, Component::ADD, left.as_slice(), right.as_slice())?;
+    print!(rt; "; rows ")?;
+    show::rows(rt, left.as_slice())?;
+    print!(rt; " and ")?;
+    show::rows(rt, right.as_slice())?;
+    print!(rt; " -> rows ")?;
+    show::rows(rt, out.as_slice())?;
+    line_end(rt)
 }
 
-fn starred() {
-    alone(Component::ABS, sheet::whole(-5, 3));
-    alone(Component::ABS, sheet::whole(-7, -2));
-    alone(Component::ABS, sheet::whole(0, 5));
-    pair(Component::ADD, sheet::whole(1, 2), sheet::whole(10, 20), 1);
-    pair(
-        Component::SUBTRACT,
-        sheet::whole(0, 1),
-        sheet::whole(0, 5),
-        1,
-    );
-    pair(
-        Component::MULTIPLY,
-        sheet::whole(-2, 3),
-        sheet::whole(4, 5),
-        1,
-    );
-    pair(
+fn starred(rt: &impl Print) -> Result<()> {
+    alone(rt, Component::ABS, Sheet::range(whole(-5, 3), 1))?;
+    alone(rt, Component::ABS, Sheet::range(whole(-7, -2), 1))?;
+    alone(rt, Component::ABS, Sheet::range(whole(0, 5), 1))?;
+    ranges(rt, Component::ADD, whole(1, 2), whole(10, 20))?;
+    ranges(rt, Component::SUBTRACT, whole(0, 1), whole(0, 5))?;
+    ranges(rt, Component::MULTIPLY, whole(-2, 3), whole(4, 5))?;
+    ranges(rt, Component::DIVIDE, whole(-7, 7), whole(2, 3))?;
+    ranges(rt, Component::DIVIDE, whole(1, 10), whole(0, 5))?;
+    ranges(
+        rt,
         Component::DIVIDE,
-        sheet::whole(-7, 7),
-        sheet::whole(2, 3),
-        1,
-    );
-    pair(
-        Component::DIVIDE,
-        sheet::whole(1, 10),
-        sheet::whole(0, 5),
-        1,
-    );
-    pair(
-        Component::DIVIDE,
-        sheet::whole(1, 10),
+        whole(1, 10),
         Ends(Bound::Absent, Bound::Whole(5)),
-        1,
-    );
+    )
 }
 
-fn starred_too() {
-    pair(Component::MODULO, sheet::whole(0, 1), sheet::whole(3, 8), 1);
-    pair(Component::MODULO, sheet::whole(0, 1), sheet::whole(0, 8), 1);
-    alone(Component::NEGATIVE, Ends(Bound::Whole(-5), Bound::Absent));
-    alone(Component::NEGATIVE, sheet::whole(-9223372036854775808, 0));
-    with_categories(Component::ADD, 1, 2, 1, 1);
+fn starred_too(rt: &impl Print) -> Result<()> {
+    ranges(rt, Component::MODULO, whole(0, 1), whole(3, 8))?;
+    ranges(rt, Component::MODULO, whole(0, 1), whole(0, 8))?;
+    alone(
+        rt,
+        Component::NEGATIVE,
+        Sheet::range(Ends(Bound::Whole(-5), Bound::Absent), 1),
+    )?;
+    alone(
+        rt,
+        Component::NEGATIVE,
+        Sheet::range(whole(-9223372036854775808, 0), 1),
+    )?;
+    with_categories(rt, Component::ADD, 1, 2, 1, 1)
 }
 
-fn pooled() {
-    pair(Component::POOL, sheet::whole(1, 2), sheet::whole(-3, 5), 1);
-    pair(
+fn not_starred(rt: &impl Print) -> Result<()> {
+    alone(rt, Component::ABS, Sheet::categories(-3, 3, 1, 1))?;
+    for columns in 16..18 {
+        let left = Sheet::range(whole(1, 2), columns);
+        pair(
+            rt,
+            Component::ADD,
+            left,
+            Sheet::range(whole(10, 20), columns),
+        )?;
+    }
+    Ok(())
+}
+
+fn traps(rt: &impl Print) -> Result<()> {
+    alone(rt, Component::ABS, Sheet::range(whole(0, 5), 1))?;
+    node_of_modulo(rt)?;
+    with_categories(rt, Component::ADD, 1, 2, 2, 3)?;
+    rows_of_one_dataset(rt)
+}
+
+fn pooled(rt: &impl Print) -> Result<()> {
+    ranges(rt, Component::POOL, whole(1, 2), whole(-3, 5))?;
+    ranges(
+        rt,
         Component::POOL,
         Ends(Bound::Whole(1), Bound::Absent),
-        sheet::whole(-3, 5),
-        1,
-    );
-    with_categories(Component::POOL, 11, 2, 1, 1);
-    with_categories(Component::POOL, 1, 2, 2, 2);
+        whole(-3, 5),
+    )?;
+    with_categories(rt, Component::POOL, 11, 2, 1, 1)?;
+    with_categories(rt, Component::POOL, 1, 2, 2, 2)
 }
 
 // Each end crosses: it is absent if one of its own two is, and leaves 64 bits by itself.
-fn differences() {
-    next_step(sheet::whole(0, 1), sheet::whole(0, 5));
-    pair(
+fn differences(rt: &impl Print) -> Result<()> {
+    next_step(
+        rt,
+        Sheet::range(whole(0, 1), 1),
+        Sheet::range(whole(0, 5), 1),
+    )?;
+    ranges(
+        rt,
         Component::SUBTRACT,
-        sheet::whole(4, 9),
+        whole(4, 9),
         Ends(Bound::Absent, Bound::Whole(3)),
-        1,
-    );
-    pair(
+    )?;
+    ranges(
+        rt,
         Component::SUBTRACT,
-        sheet::whole(-5, -2),
-        sheet::whole(-9223372036854775808, -9223372036854775808),
-        1,
-    );
-    pair(
+        whole(-5, -2),
+        whole(-9223372036854775808, -9223372036854775808),
+    )?;
+    ranges(
+        rt,
         Component::SUBTRACT,
-        sheet::whole(-1, 4),
-        sheet::whole(-9223372036854775808, 3),
-        1,
-    );
+        whole(-1, 4),
+        whole(-9223372036854775808, 3),
+    )
 }
 
 // One list, or one for each column. A list holds each result once, and another list may hold it too.
-fn counted() {
-    with_categories(Component::ADD, 1, 2, 2, 2);
-    with_categories(Component::ADD, 1, 2, 2, 1);
-    with_categories(Component::POOL, 1, 2, 2, 3);
-    categories_alone(Component::ABS, -3, 3, 2, 2);
-    categories_alone(Component::NEGATIVE, -3, 3, 1, 1);
+fn counted(rt: &impl Print) -> Result<()> {
+    with_categories(rt, Component::ADD, 1, 2, 2, 2)?;
+    with_categories(rt, Component::ADD, 1, 2, 2, 1)?;
+    with_categories(rt, Component::POOL, 1, 2, 2, 3)?;
+    alone(rt, Component::ABS, Sheet::categories(-3, 3, 2, 2))?;
+    alone(rt, Component::NEGATIVE, Sheet::categories(-3, 3, 1, 1))
 }
 
-fn main() {
-    io::write_all(STDOUT, b"Starred\n");
-    starred();
-    starred_too();
-    io::write_all(STDOUT, b"Not starred\n");
-    categories_alone(Component::ABS, -3, 3, 1, 1);
-    pair(Component::ADD, sheet::whole(1, 2), sheet::whole(10, 20), 16);
-    pair(Component::ADD, sheet::whole(1, 2), sheet::whole(10, 20), 17);
-    io::write_all(STDOUT, b"Traps\n");
-    alone(Component::ABS, sheet::whole(0, 5));
-    node_of_modulo();
-    with_categories(Component::ADD, 1, 2, 2, 3);
-    rows_of_one_dataset();
-    io::write_all(STDOUT, b"Pool\n");
-    pooled();
-    io::write_all(STDOUT, b"Subtract of ranges\n");
-    differences();
-    io::write_all(STDOUT, b"Category lists\n");
-    counted();
+fn main(rt: HostRuntime) -> Result<()> {
+    println!(rt; "Starred")?;
+    starred(&rt)?;
+    starred_too(&rt)?;
+    println!(rt; "Not starred")?;
+    not_starred(&rt)?;
+    println!(rt; "Traps")?;
+    traps(&rt)?;
+    println!(rt; "Pool")?;
+    pooled(&rt)?;
+    println!(rt; "Subtract of ranges")?;
+    differences(&rt)?;
+    println!(rt; "Category lists")?;
+    counted(&rt)
 }

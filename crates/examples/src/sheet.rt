@@ -1,5 +1,5 @@
 // The examples' operands, in buffers of zeros of the longest sheet's length: type Int, releasable, one row, node 7.
-ghost use Rattle.std.specs.Prelude.{◌≡◌, ◌≤◌, length};
+ghost use Rattle.std.specs.Prelude.{◌≡◌, ◌≤◌, length, take};
 ghost use Rattle.base.specs.Form.{narrow, longest, called_for, whole_range_nature, whole_lists_nature};
 ghost use Rattle.base.specs.declared.Bound.TheVariants as Bound;
 
@@ -24,6 +24,67 @@ pub(crate) fn whole(a: i64, c: i64) -> Ends
     Ends(Bound::Whole(a), Bound::Whole(c))
 }
 
+// A sheet, at the start of a buffer of zeros.
+#[derive(Clone, Copy)]
+pub struct Sheet {
+    pub bytes: [u8; form::NARROW_LONGEST],
+    pub len: usize,
+}
+
+impl Sheet {
+    pub(crate) fn zeros() -> Self {
+        Sheet {
+            bytes: [0; form::NARROW_LONGEST],
+            len: 0,
+        }
+    }
+
+    pub(crate) fn as_slice(&self) -> &[u8]
+        ensures { result.now ≡ take self.now.len self.now.bytes }
+    {
+        &self.bytes[..self.len.min(form::NARROW_LONGEST)]
+    }
+
+    // A whole range of one entry, which stands for every column.
+    pub(crate) fn range(e: Ends, columns: u8) -> Self
+        ensures { result.len ≡ called_for narrow whole_range_nature 0 1 0 0 }
+    {
+        let mut s = Sheet::zeros();
+        head(&mut s.bytes, form::WHOLE_RANGE, 1, columns);
+        let next = base::put_bound(&mut s.bytes, form::NARROW_ARRAYS_AT, e.0);
+        s.len = base::put_bound(&mut s.bytes, next, e.1);
+        s
+    }
+
+    // Two whole categories, in one list or in two.
+    pub(crate) fn categories(a: i64, b: i64, lists: u8, columns: u8) -> Self
+        ensures { result.len ≡ called_for narrow whole_lists_nature 0 lists 2 0 }
+    {
+        let mut s = Sheet::zeros();
+        head(&mut s.bytes, form::WHOLE_LISTS, lists, columns);
+        octets::put_u8(&mut s.bytes, CATEGORIES_AT, 2);
+        let second = octets::put_u8(&mut s.bytes, form::NARROW_ARRAYS_AT, 0);
+        let values = octets::put_u8(&mut s.bytes, second, if lists == 1 { 0 } else { 1 });
+        let next = octets::put_i64(&mut s.bytes, values, a);
+        s.len = octets::put_i64(&mut s.bytes, next, b);
+        s
+    }
+
+    pub(crate) fn with_node(mut self, n: u8) -> Self {
+        node(&mut self.bytes, n);
+        self
+    }
+
+    // Not releasable, of one dataset.
+    pub(crate) fn private(mut self, n: u8) -> Self {
+        rows(&mut self.bytes, n);
+        octets::put_u8(&mut self.bytes, form::RELEASABLE_AT, 0);
+        octets::put_u8(&mut self.bytes, form::DATASET_MARK_AT, 1);
+        octets::put_u8(&mut self.bytes, form::DATASET_AT, DATASET);
+        self
+    }
+}
+
 // The fields that every operand has; each number fits the first of its bytes.
 fn head(s: &mut [u8], nature: u8, lists: u8, columns: u8)
     requires { longest narrow ≤ length s.old }
@@ -38,7 +99,7 @@ fn head(s: &mut [u8], nature: u8, lists: u8, columns: u8)
     node(s, NODE);
 }
 
-pub(crate) fn node(s: &mut [u8], n: u8)
+fn node(s: &mut [u8], n: u8)
     requires { longest narrow ≤ length s.old }
 {
     octets::put_u8(s, form::NODE_AT, n);
@@ -49,39 +110,4 @@ fn rows(s: &mut [u8], n: u8)
 {
     octets::put_u8(s, form::ROWS_MARK_AT, 1);
     octets::put_u8(s, form::ROWS_AT, n);
-}
-
-// Not releasable, of one dataset.
-pub(crate) fn private(s: &mut [u8], n: u8)
-    requires { longest narrow ≤ length s.old }
-{
-    rows(s, n);
-    octets::put_u8(s, form::RELEASABLE_AT, 0);
-    octets::put_u8(s, form::DATASET_MARK_AT, 1);
-    octets::put_u8(s, form::DATASET_AT, DATASET);
-}
-
-// A whole range of one entry, which stands for every column; answers the sheet's length.
-pub(crate) fn range(s: &mut [u8], e: Ends, columns: u8) -> usize
-    requires { longest narrow ≤ length s.old }
-    ensures { result ≡ called_for narrow whole_range_nature 0 1 0 0 }
-{
-    let lower = e.0;
-    let upper = e.1;
-    head(s, form::WHOLE_RANGE, 1, columns);
-    let next = base::put_bound(s, form::NARROW_ARRAYS_AT, lower);
-    base::put_bound(s, next, upper)
-}
-
-// Two whole categories, in one list or in two; answers the sheet's length.
-pub(crate) fn categories(s: &mut [u8], a: i64, b: i64, lists: u8, columns: u8) -> usize
-    requires { longest narrow ≤ length s.old }
-    ensures { result ≡ called_for narrow whole_lists_nature 0 lists 2 0 }
-{
-    head(s, form::WHOLE_LISTS, lists, columns);
-    octets::put_u8(s, CATEGORIES_AT, 2);
-    let second = octets::put_u8(s, form::NARROW_ARRAYS_AT, 0);
-    let values = octets::put_u8(s, second, if lists == 1 { 0 } else { 1 });
-    let next = octets::put_i64(s, values, a);
-    octets::put_i64(s, next, b)
 }

@@ -6,15 +6,16 @@ ghost use Rattle.std.specs.Float.Ieee.{neg};
 ghost use Rattle.numbers.specs.Result.{ok};
 ghost use Rattle.numbers.specs.Kind.{float};
 ghost use Rattle.base.specs.Encode.{float_bits};
+ghost use Rattle.base.specs.Refusals.{told};
 ghost use Rattle.base.specs.Code.{float_end, of_float};
 ghost use Rattle.ends.specs.Ends.{from_one, neg_ends, abs_lower, abs_upper, abs_ends};
 ghost use Rattle.ends.specs.Signs.{Number, NumberEnd, Numbers, copied, negated, end_copied, end_negated, neg_bits, abs_lower_bits, abs_upper_bits, abs_bits};
-ghost use Rattle.ends.specs.declared.End.TheVariants as End;
 ghost use Rattle.ends.specs.Code.{float_span, end_of, ends_of};
 ghost use Rattle.float_signs.specs.Code.{ends_bits};
 
 use base::Bound;
-use ends::{Ends, FloatPair, Range};
+use base::refusals::Refusal;
+use ends::Range;
 use numbers::Float;
 
 // ---- copy and negate of IEEE 754-2008, 5.5.1
@@ -38,7 +39,7 @@ fn negate(x: Float) -> Float
 // ---- Negative
 
 fn neg_end(x: Bound) -> Bound
-    ensures end { End.Is result ≡ end_of of_float (from_one float.neg (float_end x)) }
+    ensures end { ok result ≡ end_of of_float (from_one float.neg (float_end x)) }
     ensures bits { NumberEnd (float_end x) → end_copied (float_end result) ≡ end_negated (float_end x) }
 {
     let Bound::Float(a) = x else {
@@ -47,15 +48,15 @@ fn neg_end(x: Bound) -> Bound
     Bound::Float(negate(a))
 }
 
-pub fn neg_ends(x: Range) -> Ends
-    ensures ends { result ≡ ends_of of_float (neg_ends float (float_span x)) }
-    ensures bits { Numbers (float_span x) → ends_bits result ≡ ok (neg_bits (float_span x)) }
+pub fn neg_ends(x: Range) -> Result<Range, Refusal>
+    ensures ends { told result ≡ ends_of of_float (neg_ends float (float_span x)) }
+    ensures bits { Numbers (float_span x) → ends_bits (told result) ≡ ok (neg_bits (float_span x)) }
 {
     let lower = x.lower;
     let upper = x.upper;
     let l = neg_end(upper);
     let u = neg_end(lower);
-    Ends::Are(Range { lower: l, upper: u })
+    Ok(Range { lower: l, upper: u })
 }
 
 // ---- Abs
@@ -74,14 +75,15 @@ fn abs_upper(a: Float, c: Float) -> Float
     if 0.0 < a + c { copy(c) } else { negate(a) }
 }
 
-pub fn abs_ends(x: Range) -> Ends
-    ensures ends { result ≡ ends_of of_float (abs_ends float (float_span x)) }
-    ensures bits { Numbers (float_span x) → ends_bits result ≡ ok (abs_bits (float_span x)) }
+#[tactic(auto, using(ends::proofs::Rules::both_on, ends::proofs::Signs::bits_on_lem), unfolding(ends::specs::Ends::abs_ends))]
+pub fn abs_ends(x: Range) -> Result<Range, Refusal>
+    ensures ends { told result ≡ ends_of of_float (abs_ends float (float_span x)) }
+    ensures bits { Numbers (float_span x) → ends_bits (told result) ≡ ok (abs_bits (float_span x)) }
 {
-    let FloatPair::Both(a, c) = ends::float_pair(x) else {
+    let Some((a, c)) = ends::pair::<Float>(x) else {
         return ends::unknown();
     };
-    Ends::Are(Range {
+    Ok(Range {
         lower: Bound::Float(abs_lower(a, c)),
         upper: Bound::Float(abs_upper(a, c)),
     })

@@ -1,17 +1,13 @@
 -- The call that shows a node, as its code goes through it.
---     admitted_ended, leaves_ended       a call that does not go on is at its end
 --     admitted_shown                     1, 27 or 30
 --     leaves_shown, steps_shown          a walked leaf's or step's refusal
 --     sheet_shown                        the sheet, or 27
 --     all_clauses                        what follows of the whole answer
 -- Assumes nothing.
-use mathlib.Core.Path.{◌≡◌, sym, ap, subst, ◌∙◌}
-use mathlib.Core.List.{List, [], ◌∷◌}
-use mathlib.Core.Logic.{⊎_elim}
+use mathlib.Core.Path.{◌≡◌, refl, sym, ap, subst, ◌∙◌}
+use mathlib.Core.List.{List}
 use Prim.Native.Nat.{ℕ, ◌<◌}
 use native.Mathlib.Omega.{arith}
-use types.Run.{OneOf}
-use denote.Enum.Declared.{tag_of}
 use Rattle.octets.proofs.Reread.{AllBytes}
 use Rattle.sets.specs.Sets.{in_set}
 use Rattle.sets.proofs.SetLaws.{chosen_same}
@@ -19,12 +15,10 @@ use Rattle.base.specs.Form.{narrow}
 use Rattle.plan_form.specs.Form.{leaf_count}
 use Rattle.calls.specs.Single.{Outcome, outcome}
 use Rattle.calls.specs.Walk.{sheet_in, walk, leaves_then, leaf_nodes}
-use Rattle.plan_leaves.specs.Code.{nodes_from, walked, unless_stopped, Leaves, LeavesSay, Ended}
-use Rattle.plan_leaves.specs.contracts.Walked
+use Rattle.plan_leaves.specs.Code.{nodes_from, walked, unless_stopped, LeavesSay, Ended}
 use Rattle.plan_leaves.specs.declared.Walked.{Walked}
 use Rattle.plan_leaves.specs.declared.Walked.TheVariants as W
 use Rattle.standing.specs.Standing.{stands, walked_steps}
-use Rattle.walks.proofs.Ending.{NoNext, no_next}
 use Rattle.rights.specs.Reveal.{Revealed, revealed, showing, shown_of, walked_to, reveal}
 use Rattle.rights.specs.Code.{Permitted, Admitted}
 use Rattle.replies.specs.Reply.{replied, shown}
@@ -33,20 +27,6 @@ use Rattle.reveal_laws.proofs.Cases.{shown_refused}
 use Rattle.reveal_laws.proofs.SameRights.{same_rights}
 use Rattle.reveal_laws.proofs.Alike.{alike}
 use Rattle.reveal_laws.proofs.AsPlanned.{as_planned}
-
--- ---- a call at its end
-
-pub leaves_ended : (p : List ℕ) (w : Walked) → NoNext w → Leaves p w → Ended w
-leaves_ended p (W.Accepted n) h l = absurd l
-leaves_ended p (W.Refused k node) h l = l
-leaves_ended p (W.Next k) h l = absurd (no_next k h)
-
--- the tag of `Accepted` is 0
-abbrev pub NotAccepted : Walked → Type 0
-NotAccepted w = OneOf (1 ∷ 2 ∷ []) (tag_of Walked.the_type w)
-
-not_accepted : (n : ℕ) → NotAccepted (W.Accepted n) → ⊥
-not_accepted n h = ⊎_elim (λ (e : 0 ≡ 1). omega arith) (λ (e : 0 ≡ 2). omega arith) h
 
 -- ---- replies
 
@@ -71,16 +51,11 @@ module _ (p owners : List ℕ) (reader wanted : ℕ) (work out : List ℕ) where
   abbrev whole : Revealed
   whole = reveal narrow p owners reader wanted work out
 
-  pub admitted_ended : (w : Walked) → NoNext w → Admitted p owners reader wanted work w → Ended w
-  admitted_ended (W.Accepted n) h a = absurd a
-  admitted_ended (W.Refused k node) h a = a.1
-  admitted_ended (W.Next k) h a = absurd (no_next k h)
-
-  pub admitted_shown : (w : Walked) (r : ℕ) → NoNext w → Admitted p owners reader wanted work w → ((nodes : ℕ) (p work : List ℕ) → replied r work ≡ walked nodes p w work)
+  pub admitted_shown : (w : Walked) (r : ℕ) → ((k : ℕ) → w ≡ W.Next k → ⊥) → Admitted p owners reader wanted work w → ((nodes : ℕ) (p work : List ℕ) → replied r work ≡ walked nodes p w work)
       → shown r work out ≡ whole
   admitted_shown (W.Accepted n) r h a says = absurd a
   admitted_shown (W.Refused k node) r h a says = reply_shown r work out (says 0 p work) ∙ a.0 out
-  admitted_shown (W.Next k) r h a says = absurd (no_next k h)
+  admitted_shown (W.Next k) r h a says = absurd (h k refl)
 
   -- the nodes that the wanted one stands on, as a set
   module _ (permitted : Permitted p owners reader wanted work) (nodes : ℕ) (set : (j : ℕ) → in_set nodes j ≡ stands p wanted j) where
@@ -96,21 +71,21 @@ module _ (p owners : List ℕ) (reader wanted : ℕ) (work out : List ℕ) where
         ap (λ (n : ℕ). walk narrow p (nodes_from nodes p n) work) e
         ∙ ap (λ (ks : List ℕ). walk narrow p ks work) (chosen_same (in_set nodes) (stands p wanted) set _)
 
-    pub leaves_shown : (w : Walked) (r : ℕ) → NoNext w → LeavesSay nodes p work w → ((nodes : ℕ) (p work : List ℕ) → replied r work ≡ walked nodes p w work)
+    pub leaves_shown : (w : Walked) (r : ℕ) → ((k : ℕ) → w ≡ W.Next k → ⊥) → LeavesSay nodes p work w → ((nodes : ℕ) (p work : List ℕ) → replied r work ≡ walked nodes p w work)
         → shown r work out ≡ whole
     leaves_shown (W.Accepted n) r h s says = absurd s.next
     leaves_shown (W.Refused k node) r h s says =
         reply_shown r work out (says 0 p work) ∙ sym (refused_shown wanted out s.next.0 (walked_leaves_lem s)) ∙ permitted.shows out
-    leaves_shown (W.Next k) r h s says = absurd (no_next k h)
+    leaves_shown (W.Next k) r h s says = absurd (h k refl)
 
     -- the leaves passed, and the steps left a buffer
     module _ (k : ℕ) (s : LeavesSay nodes p work (W.Next k)) (after : List ℕ) where
       walked_all : {o : Outcome} → o ≡ walk narrow p (nodes_from nodes p k) work → walked_to narrow p wanted work ≡ o
       walked_all e = walked_leaves_lem s ∙ sym (walked_steps_lem k s.next) ∙ sym e
 
-      pub steps_shown : (w : Walked) (r : ℕ) → NotAccepted w → Ended w → walked nodes p w after ≡ walk narrow p (nodes_from nodes p k) work
+      pub steps_shown : (w : Walked) (r : ℕ) → ((n : ℕ) → w ≡ W.Accepted n → ⊥) → Ended w → walked nodes p w after ≡ walk narrow p (nodes_from nodes p k) work
           → ((nodes : ℕ) (p work : List ℕ) → replied r work ≡ walked nodes p w work) → shown r after out ≡ whole
-      steps_shown (W.Accepted n) r h e took says = absurd (not_accepted n h)
+      steps_shown (W.Accepted n) r h e took says = absurd (h n refl)
       steps_shown (W.Refused m node) r h e took says =
           reply_shown r after out (says 0 p after) ∙ sym (refused_shown wanted out e.0 (walked_all took)) ∙ permitted.shows out
       steps_shown (W.Next m) r h e took says = absurd e
@@ -123,14 +98,16 @@ module _ (p owners : List ℕ) (reader wanted : ℕ) (work out : List ℕ) where
           ∙ permitted.shows out
 
   pub all_clauses : {r : Revealed} → AllBytes work → r ≡ whole
-      → (r ≡ whole) × (SameRights narrow p owners reader wanted work out r × (Alike narrow p owners reader wanted work out r × AsPlanned narrow p owners reader wanted work out r))
-  all_clauses small e = (
-    e,
-    (
-      subst (SameRights narrow p owners reader wanted work out) (sym e) (same_rights p owners reader wanted work out),
-      (
-        subst (Alike narrow p owners reader wanted work out) (sym e) (alike p owners reader wanted work out small),
-        subst (AsPlanned narrow p owners reader wanted work out) (sym e) (as_planned p owners reader wanted work out small),
-      ),
-    ),
-  )
+      → record {
+        bytes : r ≡ whole;
+        rights : SameRights narrow p owners reader wanted work out r;
+        alike : Alike narrow p owners reader wanted work out r;
+        planned : AsPlanned narrow p owners reader wanted work out r;
+      }
+  all_clauses small e =
+      record {
+        bytes = e;
+        rights = subst (SameRights narrow p owners reader wanted work out) (sym e) (same_rights p owners reader wanted work out);
+        alike = subst (Alike narrow p owners reader wanted work out) (sym e) (alike p owners reader wanted work out small);
+        planned = subst (AsPlanned narrow p owners reader wanted work out) (sym e) (as_planned p owners reader wanted work out small);
+      }

@@ -4,7 +4,7 @@
 
 ghost use Rattle.std.specs.Prelude.{◌≡◌, ◌%◌, ◌^◌};
 ghost use Rattle.base.specs.Form.{narrow};
-ghost use Rattle.calls.specs.Single.{single, step, delivery};
+ghost use Rattle.calls.specs.Single.{single};
 ghost use Rattle.calls.specs.Walk as Walk;
 ghost use Rattle.containment.specs.Demand.{Contained};
 ghost use Rattle.replies.specs.Reply.{replied, shown};
@@ -12,38 +12,14 @@ ghost use Rattle.rights.specs.Reveal.{reveal};
 ghost use Rattle.reveal_laws.specs.Runs.{SameRights, Alike, AsPlanned};
 
 use base::form::Form;
-use base::{Component, Numbered, form, refusals};
+use base::refusals::Refusal;
+use base::{Component, form};
 use plan_leaves::Walked;
 
-// The single call where texts may be joined or united, in buffers that have room for an area.
-fn join_texts(c: Component, node: u32, left: &[u8], right: &[u8], out: &mut [u8]) -> u64
-    ensures { replied result out.new ≡ delivery (step narrow c node left.now right.now) out.old }
-{
-    let mut first = [0u8; form::NARROW_ENDS_ROOM];
-    let mut second = [0u8; form::NARROW_TEXTS_ROOM];
-    let mut us = [0i64; form::NARROW_CATEGORY_LIMIT];
-    let mut bs = [0i64; form::NARROW_CATEGORY_LIMIT];
-    let mut store = [0i64; form::NARROW_CATEGORY_LIMIT];
-    let mut hints = [0u8; utilities::HINTS];
-    let mut scratch = [0u8; form::NARROW_LONGEST];
-    let joined = transforms::step(
-        Form::Narrow,
-        c,
-        node,
-        left,
-        right,
-        &mut first,
-        &mut second,
-        &mut us,
-        &mut bs,
-        &mut store,
-        &mut hints,
-        &mut scratch,
-    );
-    replies::deliver_reply(joined, &scratch, out)
-}
+mod buffers;
 
-// The step works in buffers that are made here; those for categories only where some are mapped, combined or united.
+// Only a step that may join or unite texts has room for an area, and only one that maps, combines or unites categories the stores.
+#[tactic(auto, using(replies::proofs::Packed::reply_is), unfolding(calls::specs::Single::single, calls::specs::Single::single_of))]
 pub fn propagate_property(
     component: u32,
     node: u32,
@@ -54,58 +30,28 @@ pub fn propagate_property(
     ensures { replied result out.new ≡ single narrow component node left.now right.now out.old }
 {
     let numbered = Component::from_number(component);
-    let Numbered::Is(c) = numbered else {
-        return replies::reply(refusals::NO_COMPONENT, 0);
+    let Some(c) = numbered else {
+        return replies::reply(Refusal::NoComponent.number(), 0);
     };
-    let f = Form::Narrow;
-    if lending::joins_texts(f, c, left, right) {
-        return join_texts(c, node, left, right, out);
+    if lending::joins_texts(Form::Narrow, c, left, right) {
+        return buffers::step_in_buffers::<
+            { form::NARROW_TEXTS_ROOM },
+            { form::NARROW_CATEGORY_LIMIT },
+            { utilities::HINTS },
+            { form::NARROW_LONGEST },
+        >(c, node, left, right, out);
     }
-    let mut first = [0u8; form::NARROW_ENDS_ROOM];
-    if lending::joins_lists(f, c, left, right) {
-        let mut second = [0u8; form::NARROW_VALUES_ROOM];
-        let mut us = [0i64; form::NARROW_CATEGORY_LIMIT];
-        let mut bs = [0i64; form::NARROW_CATEGORY_LIMIT];
-        let mut store = [0i64; form::NARROW_CATEGORY_LIMIT];
-        let mut hints = [0u8; utilities::HINTS];
-        let mut scratch = [0u8; form::NARROW_LISTS_LONGEST];
-        let put = transforms::step(
-            f,
-            c,
-            node,
-            left,
-            right,
-            &mut first,
-            &mut second,
-            &mut us,
-            &mut bs,
-            &mut store,
-            &mut hints,
-            &mut scratch,
-        );
-        return replies::deliver_reply(put, &scratch, out);
+    if lending::joins_lists(Form::Narrow, c, left, right) {
+        return buffers::step_in_buffers::<
+            { form::NARROW_VALUES_ROOM },
+            { form::NARROW_CATEGORY_LIMIT },
+            { utilities::HINTS },
+            { form::NARROW_LISTS_LONGEST },
+        >(c, node, left, right, out);
     }
-    let mut second = [0u8; form::NARROW_ENDS_ROOM];
-    let mut us = [0i64; 0];
-    let mut bs = [0i64; 0];
-    let mut store = [0i64; 0];
-    let mut hints = [0u8; 0];
-    let mut scratch = [0u8; form::NARROW_RANGE_LONGEST];
-    let put = transforms::step(
-        f,
-        c,
-        node,
-        left,
-        right,
-        &mut first,
-        &mut second,
-        &mut us,
-        &mut bs,
-        &mut store,
-        &mut hints,
-        &mut scratch,
-    );
-    replies::deliver_reply(put, &scratch, out)
+    buffers::step_in_buffers::<{ form::NARROW_ENDS_ROOM }, 0, 0, { form::NARROW_RANGE_LONGEST }>(
+        c, node, left, right, out,
+    )
 }
 
 // `contained` is demand 3, of the work buffer as it was handed in and as it is left.

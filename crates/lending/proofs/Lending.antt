@@ -23,13 +23,14 @@ use Rattle.base.specs.declared.Family.{Family}
 use Rattle.base.specs.declared.Family.TheVariants as Fam
 use Rattle.base.proofs.Passed.{passed, long_enough}
 use Rattle.writer.specs.Written.{ends_room, lists_room, texts_room, Within}
-use Rattle.writer.specs.declared.Derived.{Derived}
-use Rattle.writer.specs.declared.Derived.TheVariants as D
+use Rattle.base.specs.Refusals.{Answer}
+use Rattle.std.specs.declared.result.Result.TheVariants as D
 use Rattle.category_lists.specs.Answers.{Stores, Arrays}
 use Rattle.category_lists.specs.Columnwise.{Listed}
 use Rattle.lending.specs.Code.{Read, Ready, holds_categories, holds_texts, holds_lists, joins_lists, joins_texts, arrays_room, nature_room, Lent, Buffers}
 use lib.Dec.{T, eqb, leb}
 use Rattle.base.specs.Components.{is_unary}
+use Rattle.writer.specs.declared.Parts.{Parts}
 
 -- a sheet that was read has its fields
 pub stands : {F : Form} {s : List ℕ} → Read F s → F.arrays_at ≤ length s
@@ -129,6 +130,6 @@ most b false h k = omega arith
 pub nature_room_lem : {F : Form} → Laid F → (m : Family) (left right : List ℕ) → arrays_room m F left right ≤ nature_room m F left right
 nature_room_lem {F} laid m left right = most (joins_lists m F left right) (joins_texts m F left right) (omega arith) laid.ranges_shorter
 
-pub wider : (F : Form) {a b : ℕ} (first second : List ℕ) → a ≤ b → (d : Derived) → Within F a first second d → Within F b first second d
-wider F first second h (D.Nature p) z = record { entries = z.entries; values = z.values; text = z.text; first_held = z.first_held; second_held = z.second_held; both = omega arith }
-wider F first second h (D.Refused k) z = tt
+pub wider : (F : Form) {a b : ℕ} (first second : List ℕ) → a ≤ b → (d : Answer Parts) → Within F a first second d → Within F b first second d
+wider F first second h (D.Ok p) z = record { entries = z.entries; values = z.values; text = z.text; first_held = z.first_held; second_held = z.second_held; both = omega arith }
+wider F first second h (D.Err k) z = tt

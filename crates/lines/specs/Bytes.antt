@@ -1,16 +1,13 @@
 -- Bytes as hexadecimal text.
-use Rattle.std.specs.Prelude.{ℕ, ◌≤◌, ◌<◌, ◌≡◌, cond, List, [], ◌∷◌, ◌++◌, eqb, length, drop}
+use Rattle.std.specs.Prelude.{ℕ, ◌<◌, ◌≡◌, cond, List, [], ◌∷◌, ◌++◌, eqb, length, drop}
+use Rattle.std.specs.Prelude as Std
 use Rattle.std.proofs.Math.Option.{Option, none, some}
-use Rattle.lines.specs.declared.Digit.{Digit}
-use Rattle.lines.specs.declared.Digit.TheVariants as D
-use Rattle.lines.specs.declared.Held.{Held}
-use Rattle.lines.specs.declared.Held.TheVariants as H
 use Rattle.lines.specs.Digits.{hex_digit, joined}
 
-unfoldable pub with_byte : Digit → Option (List ℕ) → Option (List ℕ)
-with_byte (D.Is v) (some vs) = some (v ∷ vs)
-with_byte (D.Is v) none = none
-with_byte D.Not o = none
+unfoldable pub with_byte : Std.Option ℕ → Option (List ℕ) → Option (List ℕ)
+with_byte (Std.Some v) (some vs) = some (v ∷ vs)
+with_byte (Std.Some v) none = none
+with_byte Std.None o = none
 
 -- two lower-case digits a byte
 unfoldable pub bytes_in : List ℕ → Option (List ℕ)
@@ -25,11 +22,6 @@ field_bytes (a ∷ []) = cond (eqb a 45) (some []) none
 field_bytes (a ∷ b ∷ s) = bytes_in (a ∷ b ∷ s)
 
 -- the bytes stand at the start of the buffer, with later bytes as they were; or there are none, or too many for the buffer
-abbrev pub Puts : Held → Option (List ℕ) → List ℕ → List ℕ → Type 0
-Puts (H.Len n) o d d' = (vs : List ℕ) × (o ≡ some vs) × (length vs ≡ n) × (d' ≡ vs ++ drop n d)
-Puts H.Not o d d' = (vs : List ℕ) → o ≡ some vs → length d < length vs
-
--- what is held is within n bytes
-abbrev pub Within : Held → ℕ → Type 0
-Within (H.Len k) n = k ≤ n
-Within H.Not n = Unit {0}
+abbrev pub Puts : Std.Option ℕ → Option (List ℕ) → List ℕ → List ℕ → Type 0
+Puts (Std.Some n) o d d' = (vs : List ℕ) × (o ≡ some vs) × (length vs ≡ n) × (d' ≡ vs ++ drop n d)
+Puts Std.None o d d' = (vs : List ℕ) → o ≡ some vs → length d < length vs

@@ -2,7 +2,6 @@
 use Rattle.std.specs.Prelude.{ℕ, ◌≤◌, List, ◌++◌, take, drop}
 use Rattle.lines.specs.declared.Window.{Window}
 use Rattle.lines.specs.declared.Line.{Line}
-use Rattle.lines.specs.declared.Line.TheVariants as L
 
 -- a window of a buffer of n bytes
 abbrev pub Open : Window → ℕ → Type 0
@@ -10,8 +9,7 @@ Open w n = (w.at ≤ w.end) × (w.end ≤ n)
 
 -- a line, and the window behind it, in a buffer of n bytes
 abbrev pub Inside : Line → ℕ → Type 0
-Inside (L.Is from to rest) n = (from ≤ to) × (to ≤ n) × Open rest n
-Inside L.End n = Unit {0}
+Inside line n = (line.from ≤ line.to) × (line.to ≤ n) × Open line.rest n
 
 -- the n bytes from `at` on, moved to the start, with the bytes behind them as they were
 unfoldable pub slid : ℕ → ℕ → List ℕ → List ℕ

@@ -25,7 +25,7 @@ use Rattle.orders.specs.Parts.{next}
 use Rattle.orders.proofs.Refusals.{Numbered, first_append, checked_passes, checked_refuses}
 use Rattle.orders.proofs.Passing.{Passing, all_pass, pass_parts}
 use Rattle.calls.specs.Natures.{list_checks_of, list_checks, both_list_checks, united_nature, lists_united, combined_nature, lists_pair}
-use Rattle.list_codes.specs.Code.{Lists}
+use Rattle.list_codes.specs.Code.{Lists, both_lists_code_of}
 use Rattle.list_codes.proofs.Numbers.{yes_no, number_of, count_of}
 
 -- ---- 19, 20 and 29 of each, and 21
@@ -142,3 +142,9 @@ module _ (columns : ℕ) (l r : Nature) where
     pub union_joins : lists_united columns l r ≡ united_nature columns l r
     unfolding lists_united
     union_joins = checked_passes (united_nature columns l r) (both_list_checks columns l r) (both_numbered columns l r) e
+
+-- what the code says of two operands' bytes, it says of their natures
+pub both_of : (F : Form) (columns : ℕ) (left right : List ℕ)
+    → both_lists_code_of F columns left right ≡ first_failing (both_list_checks columns (nature_in F left) (nature_in F right))
+unfolding both_lists_code_of
+both_of F columns left right = refl

@@ -10,17 +10,19 @@ use mathlib.Core.Logic.{⊎_elim}
 use mathlib.Core.Option.{Option, none, some}
 use Prim.Native.Nat.{ℕ}
 use lib.IntN.{ℤ}
-use borrow.Author.Tests.{ne_eqb}
 use Rattle.numbers.specs.Result.{Result, refused, first_failing}
 use Rattle.numbers.specs.Kind.{eq_z}
 use Rattle.base.specs.Form.{Form, byte_at, nature_at}
 use Rattle.base.specs.Sheet.{Nature}
 use Rattle.base.specs.Decode.{as_whole, nature_in, lists}
 use Rattle.base.specs.Components.{family_of, is_unary}
+use Rattle.base.specs.Refusals.{number_of}
+use Rattle.base.specs.declared.refusals.Refusal.{Refusal}
 use Rattle.base.specs.declared.Component.{Component}
 use Rattle.base.specs.declared.Component.TheVariants as C
 use Rattle.base.specs.declared.Family.{Family}
 use Rattle.base.specs.declared.Family.TheVariants as Fam
+use Rattle.base.proofs.Told.{numbered}
 use Rattle.base.proofs.Natures.{nature_whole_lists, nature_bool_lists, nature_text_lists}
 use Rattle.category_lists.specs.Categories.{category_rule, ruled, rule_of, combined, mapped, limited}
 use Rattle.orders.specs.Parts.{is_int_copy}
@@ -104,9 +106,9 @@ module _ (limit : ℕ) (c : Component) (type columns : ℕ) where
   mapping l = ruled (rule_for c type l) (λ rule. limited limit (mapped eq_z rule columns (whole_lists_of l)))
 
   module _ (F : Form) (s : List ℕ) where
-    pub alone_fails : {k : ℕ} → k ≡ first_failing (list_checks columns (nature_in F s)) → (k ≡ 0 → ⊥) → lists_alone limit c type columns (nature_in F s) ≡ refused k
+    pub alone_fails : (e : Refusal) → number_of e ≡ first_failing (list_checks columns (nature_in F s)) → lists_alone limit c type columns (nature_in F s) ≡ refused (number_of e)
     unfolding lists_alone
-    alone_fails {k} e h = checked_refuses (mapping (nature_in F s)) (list_checks columns (nature_in F s)) (sym e) (ne_eqb k 0 h)
+    alone_fails e h = checked_refuses (mapping (nature_in F s)) (list_checks columns (nature_in F s)) (sym h) (numbered e)
 
     module _ (z : first_failing (list_checks columns (nature_in F s)) ≡ 0) where
       alone_opened : lists_alone limit c type columns (nature_in F s) ≡ mapping (nature_in F s)

@@ -15,8 +15,9 @@ ghost use Rattle.list_codes.specs.Code.{Lists, joins};
 ghost use Rattle.list_natures.specs.Code.{Reached};
 
 use base::form::Form;
-use base::{Component, form, refusals};
-use writer::Derived;
+use base::refusals::Refusal;
+use base::{Component, form};
+use writer::Parts;
 
 // Two operands of text that 19, 20, 29 and 21 passed: 22, then their texts joined.
 fn joined_texts(
@@ -31,12 +32,12 @@ fn joined_texts(
     store: &mut [i64],
     first: &mut [u8],
     second: &mut [u8],
-) -> Derived
+) -> Result<Parts, Refusal>
     requires { Joining (form_of f) left.now right.now × Ready (form_of f) columns first.old second.old × (joins c ≡ true → TextStores (form_of f) us.old bs.old store.old first.old second.old) }
     ensures { (derived_in result first.new second.new ≡ in_writing (form_of f) (combined_nature (form_of f) c data_type columns (nature_in (form_of f) left.now) (nature_in (form_of f) right.now))) × Within (form_of f) (nature_room (family_of c) (form_of f) left.now right.now) first.new second.new result }
 {
     if !list_codes::joins(c) {
-        return Derived::Refused(refusals::NO_RULE);
+        return Err(Refusal::NoRule);
     }
     text_lists::texts_together(f, true, columns, left, right, us, bs, store, first, second)
 }
@@ -55,26 +56,20 @@ pub fn propagate_binary_categorical_nature(
     hints: &mut [u8],
     first: &mut [u8],
     second: &mut [u8],
-) -> Derived
+) -> Result<Parts, Refusal>
     requires lists { Lists (form_of f) left.now × Lists (form_of f) right.now × Ready (form_of f) columns first.old second.old × Reached (form_of f) c data_type right.now × (is_unary (family_of c) ≡ false) }
     requires lent { Lent (family_of c) (form_of f) left.now right.now us.old bs.old store.old hints.old first.old second.old }
     ensures { (derived_in result first.new second.new ≡ in_writing (form_of f) (lists_pair (form_of f) c data_type columns (nature_in (form_of f) left.now) (nature_in (form_of f) right.now))) × Within (form_of f) (nature_room (family_of c) (form_of f) left.now right.now) first.new second.new result }
 {
-    let k = list_codes::both_lists_code(f, columns, left, right);
-    if k != 0 {
-        return Derived::Refused(k);
-    }
+    list_codes::both_lists_code(f, columns, left, right)?;
     let x = base::nature_of(f, left);
     if x == form::TEXT_LISTS {
         return joined_texts(
             f, c, data_type, columns, left, right, us, bs, store, first, second,
         );
     }
-    if x != form::WHOLE_LISTS {
-        return Derived::Refused(refusals::NO_RULE);
-    }
-    if !list_codes::has_rule(c) {
-        return Derived::Refused(refusals::NO_RULE);
+    if x != form::WHOLE_LISTS || !list_codes::has_rule(c) {
+        return Err(Refusal::NoRule);
     }
     categories::lists_pair(
         f, c, columns, left, right, us, bs, store, hints, first, second,
@@ -93,19 +88,16 @@ pub fn propagate_unary_categorical_nature(
     hints: &mut [u8],
     first: &mut [u8],
     second: &mut [u8],
-) -> Derived
+) -> Result<Parts, Refusal>
     requires lists { Lists (form_of f) s.now × Ready (form_of f) columns first.old second.old × (family_of c ≡ Fam.Unary) }
     requires lent { Lent (family_of c) (form_of f) s.now s.now us.old us.old store.old hints.old first.old second.old }
     ensures { (derived_in result first.new second.new ≡ in_writing (form_of f) (lists_alone (form_of f).category_limit c data_type columns (nature_in (form_of f) s.now))) × Within (form_of f) (arrays_room (family_of c) (form_of f) s.now s.now) first.new second.new result }
 {
     let x = base::nature_of(f, s);
     let sizes = base::sizes_at(f, s);
-    let k = list_codes::lists_code(columns, x, sizes.lists);
-    if k != 0 {
-        return Derived::Refused(k);
-    }
+    list_codes::lists_code(columns, x, sizes.lists)?;
     if x != form::WHOLE_LISTS {
-        return Derived::Refused(refusals::NO_RULE);
+        return Err(Refusal::NoRule);
     }
     category_maps::lists_alone(f, c, columns, s, us, store, hints, first, second)
 }

@@ -1,9 +1,10 @@
 -- What two natures make, by their numbers.
---     absent_left, absent_right, range_with_lists, lists_with_range, unequal_ranges, both_ranges, both_lists    of two natures
+--     both_sorts             two that are alike ranges or none
+--     absent_left, absent_right, ranges_apart, unequal_ranges, both_ranges, both_lists    of two natures
 --     alone_absent, alone_range, alone_lists    of one
 -- Assumes nothing.
 use mathlib.Core.Path.{◌≡◌, refl, sym, ap, ◌∙◌}
-use mathlib.Core.Bool.{Bool, true, false, ◌||◌}
+use mathlib.Core.Bool.{Bool, true, false, not, beq, ◌||◌}
 use mathlib.Core.List.{List}
 use Prim.Native.Nat.{ℕ}
 use native.Mathlib.Omega.{arith}
@@ -27,6 +28,13 @@ use Rattle.ranges.proofs.Alone.{alone_is}
 use Rattle.calls.specs.Natures.{lists_alone, whole_range_with, float_range_with, lists_with, two_natures, unary_nature}
 use Rattle.list_codes.specs.Code.{has_rule}
 use Rattle.list_codes.proofs.Numbers.{yes_no}
+
+-- both are ranges, or neither is
+pub both_sorts : (a b : Bool) → not (beq a b) ≡ false → b ≡ a
+both_sorts true true e = refl
+both_sorts true false e = absurd (yes_no e)
+both_sorts false true e = absurd (yes_no e)
+both_sorts false false e = refl
 
 -- a range that is not float is whole
 range_whole : (k : ℕ) → is_range_nature k ≡ true → eqb k 2 ≡ false → k ≡ 1
@@ -86,7 +94,7 @@ module _ (c : Component) (type columns : ℕ) (together : Nature → Nature → 
   float_without xs (float_lists ls) e = refl
   float_without xs (text_lists ls) e = refl
 
-  pub range_with_lists : (l r : Nature) → is_range_nature (nature_number l) ≡ true → is_range_nature (nature_number r) ≡ false → two_natures c type columns together l r ≡ ok absent
+  range_with_lists : (l r : Nature) → is_range_nature (nature_number l) ≡ true → is_range_nature (nature_number r) ≡ false → two_natures c type columns together l r ≡ ok absent
   unfolding two_natures
   range_with_lists absent r y n = refl
   range_with_lists (whole_range xs) r y n = whole_without xs r n
@@ -107,7 +115,7 @@ module _ (c : Component) (type columns : ℕ) (together : Nature → Nature → 
   lists_ranged l (float_lists ls) e = absurd (yes_no (sym e))
   lists_ranged l (text_lists ls) e = absurd (yes_no (sym e))
 
-  pub lists_with_range : (l r : Nature) → is_range_nature (nature_number l) ≡ false → is_range_nature (nature_number r) ≡ true → two_natures c type columns together l r ≡ ok absent
+  lists_with_range : (l r : Nature) → is_range_nature (nature_number l) ≡ false → is_range_nature (nature_number r) ≡ true → two_natures c type columns together l r ≡ ok absent
   unfolding two_natures
   lists_with_range absent r n y = refl
   lists_with_range (whole_range xs) r n y = absurd (yes_no n)
@@ -116,6 +124,12 @@ module _ (c : Component) (type columns : ℕ) (together : Nature → Nature → 
   lists_with_range (bool_lists ls) r n y = lists_ranged (bool_lists ls) r y
   lists_with_range (float_lists ls) r n y = lists_ranged (float_lists ls) r y
   lists_with_range (text_lists ls) r n y = lists_ranged (text_lists ls) r y
+
+  pub ranges_apart : (l r : Nature) (a b : Bool) → is_range_nature (nature_number l) ≡ a → is_range_nature (nature_number r) ≡ b → not (beq a b) ≡ true → two_natures c type columns together l r ≡ ok absent
+  ranges_apart l r true true x y d = absurd (yes_no (sym d))
+  ranges_apart l r true false x y d = range_with_lists l r x y
+  ranges_apart l r false true x y d = lists_with_range l r x y
+  ranges_apart l r false false x y d = absurd (yes_no (sym d))
 
   lists_listed : (l r : Nature) → (nature_number r ≡ 0 → ⊥) → is_range_nature (nature_number r) ≡ false → lists_with c type columns together l r ≡ together l r
   unfolding lists_with

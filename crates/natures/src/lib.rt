@@ -14,14 +14,15 @@ ghost use Rattle.lending.specs.Code.{Read, Ready, Lent, arrays_room, nature_room
 ghost use Rattle.list_natures.specs.Code.{Reached};
 
 use base::form::Form;
-use base::{Component, form, refusals};
-use writer::{Derived, Parts};
+use base::refusals::Refusal;
+use base::{Component, form};
+use writer::Parts;
 
 // An absent nature, which has no arrays.
-fn nothing_stated(f: Form) -> Derived
+fn nothing_stated(f: Form) -> Result<Parts, Refusal>
     ensures { (room : ℕ) (a b : List ℕ) → (derived_in result a b ≡ in_writing (form_of f) (ok absent)) × Within (form_of f) room a b result }
 {
-    Derived::Nature(Parts {
+    Ok(Parts {
         nature: form::ABSENT_NATURE,
         entries: 0,
         values: 0,
@@ -44,43 +45,37 @@ pub fn propagate_binary_nature(
     hints: &mut [u8],
     first: &mut [u8],
     second: &mut [u8],
-) -> Derived
+) -> Result<Parts, Refusal>
     requires read { Read (form_of f) left.now × Read (form_of f) right.now × Ready (form_of f) columns first.old second.old × Reached (form_of f) c data_type right.now × (is_unary (family_of c) ≡ false) }
     requires lent { Lent (family_of c) (form_of f) left.now right.now us.old bs.old store.old hints.old first.old second.old }
     ensures { (derived_in result first.new second.new ≡ in_writing (form_of f) (binary_nature (form_of f) c data_type columns (nature_in (form_of f) left.now) (nature_in (form_of f) right.now))) × Within (form_of f) (nature_room (family_of c) (form_of f) left.now right.now) first.new second.new result }
 {
     let x = base::nature_of(f, left);
     let y = base::nature_of(f, right);
-    if x == form::ABSENT_NATURE {
+    if x == form::ABSENT_NATURE
+        || y == form::ABSENT_NATURE
+        || form::is_range(x) != form::is_range(y)
+    {
         return nothing_stated(f);
     }
-    if y == form::ABSENT_NATURE {
-        return nothing_stated(f);
+    if !form::is_range(x) {
+        return list_natures::propagate_binary_categorical_nature(
+            f, c, data_type, columns, left, right, us, bs, store, hints, first, second,
+        );
     }
-    if form::is_range(x) {
-        if form::is_range(y) {
-            if x != y {
-                return Derived::Refused(refusals::RANGE_KINDS);
-            }
-            return ranges::range_pair(
-                f,
-                c,
-                data_type,
-                x == form::FLOAT_RANGE,
-                columns,
-                left,
-                right,
-                first,
-                second,
-            );
-        }
-        return nothing_stated(f);
+    if x != y {
+        return Err(Refusal::RangeKinds);
     }
-    if form::is_range(y) {
-        return nothing_stated(f);
-    }
-    list_natures::propagate_binary_categorical_nature(
-        f, c, data_type, columns, left, right, us, bs, store, hints, first, second,
+    ranges::range_pair(
+        f,
+        c,
+        data_type,
+        x == form::FLOAT_RANGE,
+        columns,
+        left,
+        right,
+        first,
+        second,
     )
 }
 
@@ -96,7 +91,7 @@ pub fn propagate_unary_nature(
     hints: &mut [u8],
     first: &mut [u8],
     second: &mut [u8],
-) -> Derived
+) -> Result<Parts, Refusal>
     requires read { Read (form_of f) s.now × Ready (form_of f) columns first.old second.old × (family_of c ≡ Fam.Unary) }
     requires lent { Lent (family_of c) (form_of f) s.now s.now us.old us.old store.old hints.old first.old second.old }
     ensures { (derived_in result first.new second.new ≡ in_writing (form_of f) (unary_nature (form_of f).category_limit c data_type columns (nature_in (form_of f) s.now))) × Within (form_of f) (arrays_room (family_of c) (form_of f) s.now s.now) first.new second.new result }

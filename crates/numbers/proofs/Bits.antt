@@ -1,6 +1,7 @@
 -- A signed local holds bits, and what reads it reads `to_z w64 (of_z w64 z)`. Assumes nothing.
-use mathlib.Core.Path.{◌≡◌, sym, ap, ap₂, ◌∙◌}
+use mathlib.Core.Path.{◌≡◌, refl, sym, ap, ap₂, ◌∙◌}
 use mathlib.Core.Bool.{Bool, true, false}
+use Prim.Native.Nat.{zero, suc}
 use native.Mathlib.Omega.{arith}
 use lib.Dec.{eqb}
 use lib.IntN.{ℤ, pos, negsuc, neg_ℤ, nat_abs, ◌-ℤ◌}
@@ -9,6 +10,7 @@ use mir.Syntax.{w64}
 use mir.Val.{SFits, to_z, of_z}
 use mir.Facts.{to_z-of_z, sfits_to_z, Fits-of_z}
 use borrow.Author.Tests.{eq-eqb, ne_eqb}
+use Rattle.std.specs.Int.{IsNonZero}
 use Rattle.numbers.proofs.Parts.{zero_sub}
 
 -- what the code reads of a local that holds z; it is z, by `to_z-of_z`
@@ -54,3 +56,13 @@ zero_yes {z} f h = eq-eqb (nat_abs z) 0 (bits_zero z f h)
 
 pub zero_no : {z : ℤ} → SFits w64 z → (of_z w64 z ≡ 0 → ⊥) → eqb (nat_abs z) 0 ≡ false
 zero_no {z} f h = ne_eqb (nat_abs z) 0 (λ e. h (zero_bits z e))
+
+-- a divisor that is not 0, as the library asks for it
+pub nonzero_bits : (z : ℤ) → SFits w64 z → (nat_abs z ≡ 0 → ⊥) → IsNonZero w64 z
+nonzero_bits (pos zero) f h = absurd (h refl)
+nonzero_bits (pos (suc n)) f h = omega arith
+nonzero_bits (negsuc n) f h = omega arith
+
+pub bits_nonzero : (z : ℤ) → IsNonZero w64 z → nat_abs z ≡ 0 → ⊥
+bits_nonzero (pos n) p h = omega arith
+bits_nonzero (negsuc n) p h = omega arith

@@ -1,6 +1,5 @@
 -- What the proofs of several functions, and of the crates above, cite.
 pub mod Parts
-pub mod Sums
 pub mod Products
 pub mod Bits
 pub mod Laws

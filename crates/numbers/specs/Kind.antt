@@ -1,13 +1,12 @@
 -- The element kind: what the rules need of a number, and its two instances, whole numbers and floats.
-use Rattle.std.specs.Prelude.{Bool, false, cond, ℤ, pos, negsuc, neg_ℤ, nat_abs, ◌+ℤ◌, ◌-ℤ◌, ◌*ℤ◌, eqb, Float}
+use Rattle.std.specs.Prelude.{Bool, false, cond, ℤ, pos, negsuc, neg_ℤ, nat_abs, ◌+ℤ◌, ◌-ℤ◌, ◌*ℤ◌, eqb, Float, Some, None}
 use Rattle.std.proofs.Math.Option.{Option}
 use Rattle.std.specs.Int.Signed.{lt_z}
 use Rattle.std.specs.Float.Ieee as Ieee
 use Rattle.std.specs.Float.{fin, binary64}
 use Rattle.numbers.specs.Result.{Result, ok, refused}
 use Rattle.numbers.specs.Checked.{checked_of, quotient_of}
-use Rattle.numbers.specs.declared.Checked.{Checked}
-use Rattle.numbers.specs.declared.Checked.TheVariants.{Fits, Leaves}
+use Rattle.std.specs.declared.option.Option as Rust
 
 -- 01: "Facts common to whole and float lists are proved over the element kind". An operation may refuse
 pub record Kind (E : Type 0) : Type 0 where
@@ -32,9 +31,9 @@ abbrev pub span_of : {E : Type 0} → Option E → Option E → Span E
 span_of l u = record { lower = l; upper = u }
 
 -- 01, 24: a result that leaves 64 signed bits is refused
-abbrev pub fitting : Checked → Result ℤ
-fitting (Fits z) = ok z
-fitting Leaves = refused 24
+abbrev pub fitting : Rust.Option ℤ → Result ℤ
+fitting (Some z) = ok z
+fitting None = refused 24
 
 abbrev pub whole : Kind ℤ
 whole = record {

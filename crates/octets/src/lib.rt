@@ -10,13 +10,6 @@ ghost use Rattle.octets.specs.Le.{le_at, le_bytes};
 ghost use Rattle.octets.specs.Wrote.{Wrote};
 ghost use Rattle.octets.specs.Deliver.{delivered};
 
-// What a writer that may refuse answers: the place behind what it wrote, or the number of a refusal.
-#[derive(Clone, Copy)]
-pub enum Put {
-    At(usize),
-    Refused(u32),
-}
-
 // ---- 64 bits as a signed number and as a float
 
 // The signed number whose two's complement is `v`. `!` asks nothing, where a cast of a high `v` would not fit.
@@ -165,10 +158,6 @@ pub fn deliver(out: &mut [u8], src: &[u8], len: usize) -> bool
     if out.len() < len {
         return false;
     }
-    let mut i = 0;
-    while i < len {
-        out[i] = src[i];
-        i += 1;
-    }
+    out[..len].copy_from_slice(&src[..len]);
     true
 }

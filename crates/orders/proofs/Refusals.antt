@@ -8,6 +8,9 @@ use borrow.Author.Tests.{eqb-true, not-true, eq-eqb}
 use Rattle.numbers.specs.Result.{Result, refused, Check, checked, first_failing}
 use Rattle.utilities.specs.Lists.{every}
 use Rattle.utilities.proofs.Built.{both_hold}
+use Rattle.base.specs.Refusals.{number_of}
+use Rattle.base.specs.declared.refusals.Refusal.{Refusal}
+use Rattle.base.proofs.Told.{numbered}
 use Rattle.orders.specs.Parts.{next}
 
 -- no check has the number 0, which stands for no refusal
@@ -67,3 +70,7 @@ module _ {X : Type 0} (rest : Result X) where
       go : (t : Bool) (m n : ℕ) (a : Result X) → (n ≡ k → a ≡ refused k) → cond t m n ≡ k → cond t (refused m) a ≡ refused k
       go true m n a r e = ap refused e
       go false m n a r e = r e
+
+-- a refusal leaves the later checks aside
+pub next_err : (e : Refusal) (rest : ℕ) → next (number_of e) rest ≡ number_of e
+next_err e rest = ap (λ (t : Bool). cond t rest (number_of e)) (numbered e)

@@ -32,23 +32,17 @@ pub fn take_steps(
     ensures { (walked nodes plan.now result work.new ≡ walk narrow plan.now (nodes_from nodes plan.now from) work.old) × Reaches lent plan.now result }
 {
     let count = plan_form::node_count(plan);
-    let mut k = from;
-    while k < count {
-        if !sets::has(nodes, k) {
-            k += 1;
-            continue;
-        }
-        if !lent {
-            if plan_leaves::may_use_stores(plan, k, work) {
+    for k in from..count {
+        if sets::has(nodes, k) {
+            if !lent && plan_leaves::may_use_stores(plan, k, work) {
                 return Walked::Next(k);
             }
+            if let Err(refusal) = plan_step::step_on(
+                plan, k, work, first, second, us, bs, store, hints, scratch,
+            ) {
+                return Walked::Refused(refusal, k);
+            }
         }
-        let put = plan_step::step_on(plan, k, work, first, second, us, bs, store, hints, scratch);
-        let code = plan_step::code_in(put);
-        if code != 0 {
-            return Walked::Refused(code, k);
-        }
-        k += 1;
     }
     Walked::Accepted(count)
 }

@@ -16,8 +16,8 @@ use Rattle.base.specs.Form.{narrow, longest}
 use Rattle.base.specs.Checks.{holds_from}
 use Rattle.base.specs.Components.{component_of, family_of, is_unary}
 use Rattle.base.specs.declared.Component.{Component}
-use Rattle.base.specs.declared.Numbered.{Numbered}
-use Rattle.base.specs.declared.Numbered.TheVariants as N
+use Rattle.std.specs.declared.option.Option as Rust
+use Rattle.std.specs.declared.option.Option.TheVariants as N
 use Rattle.base.proofs.Flags.{or_no, and_both}
 use Rattle.base.proofs.Holding.{holds_within}
 use Rattle.plan_form.specs.Form.{node_limit, steps_at, node_count, leaf_count, step_count, component_number, left_of, right_of, step_permitted, plan_fails}
@@ -34,25 +34,25 @@ permitted p k = step_permitted p (component_of (component_number p k)) k
 -- ---- the test of a step, whose component's number is m
 
 module _ (p : List ℕ) (k : ℕ) {m : ℕ} (e : m ≡ component_number p k) where
-  pub permitted_unlisted : component_of m ≡ N.Unlisted → false ≡ permitted p k
+  pub permitted_unlisted : component_of m ≡ N.None → false ≡ permitted p k
   unfolding step_permitted
-  permitted_unlisted u = sym (ap (λ (n : Numbered). step_permitted p n k) (ap component_of (sym e) ∙ u))
+  permitted_unlisted u = sym (ap (λ (n : Rust.Option Component). step_permitted p n k) (ap component_of (sym e) ∙ u))
 
-  pub permitted_is : {c : Component} {l r : ℕ} {unary : Bool} → component_of m ≡ N.Is c → l ≡ left_of p k → r ≡ right_of p k → unary ≡ is_unary (family_of c)
+  pub permitted_is : {c : Component} {l r : ℕ} {unary : Bool} → component_of m ≡ N.Some c → l ≡ left_of p k → r ≡ right_of p k → unary ≡ is_unary (family_of c)
       → (ltb l k && ltb r k && (not unary || eqb l r)) ≡ permitted p k
   unfolding step_permitted
   permitted_is {c} {l} {r} {unary} i el er eu =
-      rw (el, er, eu) (sym (ap (λ (n : Numbered). step_permitted p n k) (ap component_of (sym e) ∙ i)))
+      rw (el, er, eu) (sym (ap (λ (n : Rust.Option Component). step_permitted p n k) (ap component_of (sym e) ∙ i)))
 
-permitted_listed : (p : List ℕ) (n : Numbered) (k : ℕ) → step_permitted p n k ≡ true → (c : Component) × (n ≡ N.Is c)
+permitted_listed : (p : List ℕ) (n : Rust.Option Component) (k : ℕ) → step_permitted p n k ≡ true → (c : Component) × (n ≡ N.Some c)
 unfolding step_permitted
-permitted_listed p N.Unlisted k e = absurd (subst T (sym e) tt)
-permitted_listed p (N.Is c) k e = (c, refl)
+permitted_listed p N.None k e = absurd (subst T (sym e) tt)
+permitted_listed p (N.Some c) k e = (c, refl)
 
-permitted_earlier : (p : List ℕ) (n : Numbered) (k : ℕ) → step_permitted p n k ≡ true → (left_of p k < k) × (right_of p k < k)
+permitted_earlier : (p : List ℕ) (n : Rust.Option Component) (k : ℕ) → step_permitted p n k ≡ true → (left_of p k < k) × (right_of p k < k)
 unfolding step_permitted
-permitted_earlier p N.Unlisted k e = absurd (subst T (sym e) tt)
-permitted_earlier p (N.Is c) k e =
+permitted_earlier p N.None k e = absurd (subst T (sym e) tt)
+permitted_earlier p (N.Some c) k e =
     let a = ltb (left_of p k) k in
     let b = ltb (right_of p k) k in
     let z = and_both a b (and_both (a && b) (not (is_unary (family_of c)) || eqb (left_of p k) (right_of p k)) e).0 in
@@ -66,7 +66,7 @@ pub record Planned (p : List ℕ) : Type 0 where
   pub some_leaf : 1 ≤ leaf_count p
   pub leaves : leaf_count p ≤ node_count p
   pub exact : length p ≡ steps_at + 8 * step_count p
-  pub listed : (k : ℕ) → leaf_count p ≤ k → k < node_count p → (c : Component) × (component_of (component_number p k) ≡ N.Is c)
+  pub listed : (k : ℕ) → leaf_count p ≤ k → k < node_count p → (c : Component) × (component_of (component_number p k) ≡ N.Some c)
   pub earlier : (k : ℕ) → leaf_count p ≤ k → k < node_count p → (left_of p k < k) × (right_of p k < k)
 
 pub planned : (p : List ℕ) → plan_fails p ≡ false → Planned p
@@ -104,7 +104,7 @@ module _ (p : List ℕ) (k : ℕ) (passed : plan_fails p ≡ false) (later : lea
   pub step_of : StepOf p k
   step_of = record { exact = (planned p passed).exact; later = later; within = within }
 
-  pub listed : (c : Component) × (component_of (component_number p k) ≡ N.Is c)
+  pub listed : (c : Component) × (component_of (component_number p k) ≡ N.Some c)
   listed = (planned p passed).listed k later within
 
   pub earlier : (left_of p k < k) × (right_of p k < k)

@@ -3,8 +3,9 @@ use Rattle.std.specs.Prelude.{Bool, false, not, ◌&&◌, ◌||◌, List, ℕ, �
 use Rattle.octets.specs.Le.{le_at}
 use Rattle.base.specs.Checks.{holds_from}
 use Rattle.base.specs.Components.{component_of, family_of, is_unary}
-use Rattle.base.specs.declared.Numbered.{Numbered}
-use Rattle.base.specs.declared.Numbered.TheVariants as N
+use Rattle.std.specs.declared.option.Option as Rust
+use Rattle.std.specs.declared.option.Option.TheVariants as N
+use Rattle.base.specs.declared.Component.{Component}
 
 -- 01: "nodes N (1 to 32)"
 abbrev pub node_limit : ℕ
@@ -43,9 +44,9 @@ module _ (p : List ℕ) where
   right_of k = operands k / 65536
 
   -- 01: "Operands are earlier nodes, counted from 0; for 1 and 9 both are the same"
-  unfoldable pub step_permitted : Numbered → ℕ → Bool
-  step_permitted N.Unlisted k = false
-  step_permitted (N.Is c) k = ltb (left_of k) k && ltb (right_of k) k && (not (is_unary (family_of c)) || eqb (left_of k) (right_of k))
+  unfoldable pub step_permitted : Rust.Option Component → ℕ → Bool
+  step_permitted N.None k = false
+  step_permitted (N.Some c) k = ltb (left_of k) k && ltb (right_of k) k && (not (is_unary (family_of c)) || eqb (left_of k) (right_of k))
 
   -- 1: "The plan is malformed"; "The length is exact; departures are 1"
   unfoldable pub plan_fails : Bool

@@ -7,7 +7,7 @@ ghost use Rattle.base.specs.Components.{component_of};
 ghost use Rattle.plan_form.specs.Form.{node_count, leaf_count, step_count, steps_at, component_number, operands, left_of, right_of, step_permitted, plan_fails};
 ghost use Rattle.plan_form.specs.Code.{StepOf};
 
-use base::{Component, Numbered};
+use base::Component;
 
 pub const NODE_LIMIT: usize = 32;
 
@@ -84,7 +84,7 @@ fn step_permitted(plan: &[u8], k: usize) -> bool
     ensures { result ≡ step_permitted plan.now (component_of (component_number plan.now k)) k }
 {
     let numbered = Component::from_number(component_number(plan, k));
-    let Numbered::Is(c) = numbered else {
+    let Some(c) = numbered else {
         return false;
     };
     let left = left_operand(plan, k);
@@ -92,17 +92,15 @@ fn step_permitted(plan: &[u8], k: usize) -> bool
     (left < k) & (right < k) & (!c.family().is_unary() | (left == right))
 }
 
+#[tactic(auto, using(base::proofs::Holding::held))]
 fn steps_permitted(plan: &[u8]) -> bool
     requires { length plan.now ≡ steps_at + 8 * step_count plan.now }
     ensures { result ≡ holds_from (step_count plan.now) (leaf_count plan.now) (λ k. step_permitted plan.now (component_of (component_number plan.now k)) k) }
 {
-    let n = node_count(plan);
-    let mut k = leaf_count(plan);
-    while k < n {
+    for k in leaf_count(plan)..node_count(plan) {
         if !step_permitted(plan, k) {
             return false;
         }
-        k += 1;
     }
     true
 }

@@ -1,24 +1,28 @@
 -- A plan up to its first step.
---     some_code                                           a refusal has a number
 --     leaves_past, leaves_more, leaves_refused, leaves_none    the leaves from node k on, of which some are chosen
 --     walk_none                                           no step from node k on
 --     plan_malformed, plan_short                          1 and 27
+--     walkable                                            neither
 --     plan_begun, plan_done                               what the leaves say: a refusal, or the steps are next, or there are none
 -- Assumes nothing.
-use mathlib.Core.Path.{◌≡◌, refl, sym, ap, ◌∙◌}
+use mathlib.Core.Path.{◌≡◌, sym, ap, ◌∙◌}
 use mathlib.Core.Bool.{Bool, true, false}
 use mathlib.Core.List.{List}
-use Prim.Native.Nat.{ℕ, zero, suc, ◌+◌, ◌-◌, ◌≤◌, ◌<◌}
+use Prim.Native.Nat.{ℕ, suc, ◌+◌, ◌-◌, ◌≤◌, ◌<◌}
 use native.Mathlib.Omega.{arith}
+use lib.Dec.{ltb}
 use lib.ListN.{length}
-use borrow.Author.Tests.{lt-ltb, le-ltb}
+use borrow.Author.Tests.{lt-ltb, le-ltb, ltb-false}
 use Rattle.utilities.specs.Lists.{list_from}
 use Rattle.sets.specs.Sets.{in_set, full_set, chosen}
 use Rattle.sets.proofs.SetLaws.{chosen_full}
 use Rattle.base.specs.Form.{narrow}
 use Rattle.base.specs.Checks.{read}
 use Rattle.base.specs.Code.{code_of}
+use Rattle.base.specs.Refusals.{number_of}
+use Rattle.base.specs.declared.refusals.Refusal.{Refusal}
 use Rattle.base.proofs.Passed.{read_ok, refused_code}
+use Rattle.base.proofs.Told.{above_none}
 use Rattle.calls.specs.Single.{Outcome, outcome}
 use Rattle.plan_form.specs.Form.{no_node, node_count, leaf_count, step_count, plan_fails}
 use Rattle.plan_form.proofs.FormLaws.{planned}
@@ -26,11 +30,6 @@ use Rattle.calls.specs.Walk.{slot_at, sheet_in, walk, leaves_then, leaf_nodes, s
 use Rattle.plan_leaves.specs.Code.{nodes_from, walked, Walkable, LeavesSay, Begun, unless_stopped}
 use Rattle.plan_leaves.specs.declared.Walked.{Walked}
 use Rattle.plan_leaves.specs.declared.Walked.TheVariants as W
-
--- a code that is not 0 is a refusal's
-pub some_code : (k : ℕ) → (k ≡ 0 → ⊥) → 0 < k
-some_code zero h = absurd (h refl)
-some_code (suc k) h = omega arith
 
 -- ---- n nodes, from node k on, of which some are chosen
 
@@ -50,11 +49,11 @@ module _ (test : ℕ → Bool) (n k : ℕ) (work : List ℕ) (rest : Outcome) wh
       let one : n - k ≡ suc (n - (k + 1)) = omega arith in
       rw (one, t, read_ok narrow (sheet_in narrow k work) e)
 
-  pub leaves_refused : k < n → test k ≡ true → {m : ℕ} → m ≡ code_of (read narrow (sheet_in narrow k work)) → (m ≡ 0 → ⊥) → from k ≡ outcome m k work
+  pub leaves_refused : k < n → test k ≡ true → (e : Refusal) → number_of e ≡ code_of (read narrow (sheet_in narrow k work)) → from k ≡ outcome (number_of e) k work
   unfolding leaves_then chosen list_from
-  leaves_refused h t e some =
+  leaves_refused h t e is =
       let one : n - k ≡ suc (n - (k + 1)) = omega arith in
-      rw (one, t, refused_code (read narrow (sheet_in narrow k work)) e some)
+      rw (one, t, refused_code (read narrow (sheet_in narrow k work)) is (λ z. omega (arith, above_none e, z)))
 
   pub leaves_none : n ≤ k → from k ≡ rest
   unfolding leaves_then chosen list_from
@@ -79,6 +78,9 @@ module _ (p work : List ℕ) where
   pub plan_short : plan_fails p ≡ false → length work < slot_at narrow (node_count p) → outcome 27 no_node work ≡ plan narrow p work
   unfolding plan
   plan_short e h = rw (e, lt-ltb (length work) (slot_at narrow (node_count p)) h)
+
+  pub walkable : plan_fails p ≡ false → ltb (length work) (slot_at narrow (node_count p)) ≡ false → Walkable p work
+  walkable e h = record { formed = e; room = ltb-false (length work) (slot_at narrow (node_count p)) h }
 
   plan_walked : plan_fails p ≡ false → slot_at narrow (node_count p) ≤ length work
       → leaves_then narrow (leaf_nodes narrow p) work (walk narrow p (step_nodes narrow p) work) ≡ plan narrow p work

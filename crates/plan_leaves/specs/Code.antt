@@ -9,6 +9,7 @@ use Rattle.sets.specs.Sets.{in_set, chosen}
 use Rattle.calls.specs.Single.{Outcome, outcome}
 use Rattle.plan_leaves.specs.declared.Walked.{Walked}
 use Rattle.plan_leaves.specs.declared.Walked.TheVariants as W
+use Rattle.base.specs.Refusals.{number_of}
 
 -- node k has its slot in the work buffer
 abbrev pub SlotIn : List ℕ → ℕ → Type 0
@@ -35,7 +36,7 @@ nodes_from nodes p k = chosen (in_set nodes) (list_from (node_count p - k) k (λ
 -- 01: "A plan call gives 0 and its node count, or a refusal and the node"; where a step is next, what the set's steps from there on come to
 abbrev pub walked : ℕ → List ℕ → Walked → List ℕ → Outcome
 walked nodes p (W.Accepted n) work = outcome 0 n work
-walked nodes p (W.Refused k node) work = outcome k node work
+walked nodes p (W.Refused e node) work = outcome (number_of e) node work
 walked nodes p (W.Next k) work = walk narrow p (nodes_from nodes p k) work
 
 -- 1 and 27 have passed
@@ -46,7 +47,7 @@ pub record Walkable (p work : List ℕ) : Type 0 where
 -- what becomes of the rest of a call: nothing after a refusal
 abbrev pub unless_stopped : Walked → List ℕ → Outcome → Outcome
 unless_stopped (W.Accepted n) work rest = rest
-unless_stopped (W.Refused k node) work rest = outcome k node work
+unless_stopped (W.Refused e node) work rest = outcome (number_of e) node work
 unless_stopped (W.Next k) work rest = rest
 
 -- a refusal has a number, and its node fits a reply
@@ -56,7 +57,7 @@ Refusal k node = (0 < k) × (node ≤ no_node)
 -- what checking the leaves of a plan answers: the first step is next, or a refusal
 abbrev pub Leaves : List ℕ → Walked → Type 0
 Leaves p (W.Accepted n) = ⊥
-Leaves p (W.Refused k node) = Refusal k node
+Leaves p (W.Refused e node) = Refusal (number_of e) node
 Leaves p (W.Next k) = k ≡ leaf_count p
 
 -- .. of those in a set of nodes
@@ -67,11 +68,11 @@ pub record LeavesSay (nodes : ℕ) (p work : List ℕ) (r : Walked) : Type 0 whe
 -- the plan is ready for its steps, of which the first is next, or it has none, or it is refused
 abbrev pub Begun : List ℕ → List ℕ → Walked → Type 0
 Begun p work (W.Accepted n) = n ≤ no_node
-Begun p work (W.Refused k node) = Refusal k node
+Begun p work (W.Refused e node) = Refusal (number_of e) node
 Begun p work (W.Next k) = Walkable p work × (k ≡ leaf_count p)
 
 -- a plan was walked to its end or to a refusal, and the value fits a reply
 abbrev pub Ended : Walked → Type 0
 Ended (W.Accepted n) = n ≤ no_node
-Ended (W.Refused k node) = Refusal k node
+Ended (W.Refused e node) = Refusal (number_of e) node
 Ended (W.Next k) = ⊥

@@ -5,6 +5,7 @@ ghost use Rattle.std.specs.Prelude.{◌≡◌, false, ltb, length};
 ghost use Rattle.base.specs.Form.{narrow};
 ghost use Rattle.base.specs.Checks.{read};
 ghost use Rattle.base.specs.Code.{code_of};
+ghost use Rattle.base.specs.Refusals.{code_in};
 ghost use Rattle.lending.specs.Code.{holds_categories};
 ghost use Rattle.sets.specs.Sets.{full_set};
 ghost use Rattle.plan_form.specs.Form.{node_count, left_of, plan_fails};
@@ -13,7 +14,7 @@ ghost use Rattle.plan_leaves.specs.Code.{SlotIn, EndsAt, Steppable, walked, Walk
 ghost use Rattle.calls.specs.Walk as Walk;
 
 use base::form::Form;
-use base::refusals;
+use base::refusals::Refusal;
 
 // A work buffer has a slot for each node.
 pub const SLOT: usize = base::form::NARROW_LONGEST;
@@ -26,7 +27,7 @@ pub const NO_NODE: usize = 65535;
 #[derive(Clone, Copy)]
 pub enum Walked {
     Accepted(usize),
-    Refused(u32, usize),
+    Refused(Refusal, usize),
     Next(usize),
 }
 
@@ -44,10 +45,10 @@ pub fn sheet_end(work: &[u8], k: usize) -> usize
     start + n
 }
 
-// 0, or the number of the first check of 3 to 5 that node k's sheet breaks.
-pub fn check_leaf(work: &[u8], k: usize) -> u32
+// The first check of 3 to 5 that node k's sheet breaks.
+pub fn check_leaf(work: &[u8], k: usize) -> Result<(), Refusal>
     requires { SlotIn work.now k }
-    ensures { result ≡ code_of (read narrow (sheet_in narrow k work.now)) }
+    ensures { code_in result ≡ code_of (read narrow (sheet_in narrow k work.now)) }
 {
     let start = k * SLOT;
     let end = sheet_end(work, k);
@@ -70,15 +71,12 @@ pub fn check_leaves(plan: &[u8], nodes: u64, work: &[u8]) -> Walked
     ensures { LeavesSay nodes plan.now work.now result }
 {
     let leaves = plan_form::leaf_count(plan);
-    let mut k = 0;
-    while k < leaves {
+    for k in 0..leaves {
         if sets::has(nodes, k) {
-            let code = check_leaf(work, k);
-            if code != 0 {
-                return Walked::Refused(code, k);
+            if let Err(refusal) = check_leaf(work, k) {
+                return Walked::Refused(refusal, k);
             }
         }
-        k += 1;
     }
     Walked::Next(leaves)
 }
@@ -96,10 +94,10 @@ pub fn begin(plan: &[u8], work: &[u8]) -> Walked
     ensures { (walked full_set plan.now result work.now ≡ Walk.plan narrow plan.now work.now) × Begun plan.now work.now result }
 {
     if plan_form::plan_fails(plan) {
-        return Walked::Refused(refusals::MALFORMED, NO_NODE);
+        return Walked::Refused(Refusal::Malformed, NO_NODE);
     }
     if lacks_slots(plan, work) {
-        return Walked::Refused(refusals::NO_ROOM, NO_NODE);
+        return Walked::Refused(Refusal::NoRoom, NO_NODE);
     }
     let leaves = check_leaves(plan, sets::FULL, work);
     let Walked::Next(k) = leaves else {

@@ -3,8 +3,6 @@ use Rattle.std.specs.Prelude.{List, ℕ, ◌+◌, ◌*◌, ◌≤◌, ℤ, lengt
 use Rattle.base.specs.Form.{Form, entries_at, longest}
 use Rattle.writer.specs.Written.{ends_room, lists_room}
 use Rattle.category_lists.specs.Answers.{Stores, Arrays, TextStores}
-use Rattle.octets.specs.declared.Put.{Put}
-use Rattle.octets.specs.declared.Put.TheVariants as U
 
 -- what every step of a plan is lent: room for the ends of a range, and for the sheet of one
 pub record Rooms (F : Form) (first second scratch : List ℕ) : Type 0 where
@@ -27,8 +25,3 @@ pub record TextsLent (F : Form) (us bs store : List ℤ) (first second scratch :
 pub record Large (F : Form) (us bs store : List ℤ) (hints first second scratch : List ℕ) : Type 0 where
   pub lists : ListsLent F us bs store hints first second scratch
   pub texts : TextsLent F us bs store first second scratch
-
--- 0, or the refusal's number
-abbrev pub put_code : Put → ℕ
-put_code (U.At n) = 0
-put_code (U.Refused k) = k

@@ -8,11 +8,11 @@ ghost use Rattle.lending.specs.Code.{holds_categories};
 ghost use Rattle.plan_form.specs.Form.{left_of};
 ghost use Rattle.calls.specs.Walk.{sheet_in, step_on};
 ghost use Rattle.plan_leaves.specs.Code.{Steppable};
-ghost use Rattle.plan_step.specs.Code.{Rooms, Large, put_code};
+ghost use Rattle.plan_step.specs.Code.{Rooms, Large};
 
+use base::Component;
 use base::form::Form;
-use base::{Component, Numbered, refusals};
-use octets::Put;
+use base::refusals::Refusal;
 
 // Takes step k as the single call does with its node number. It reads its operands' slots and writes its own.
 pub fn step_on(
@@ -26,15 +26,15 @@ pub fn step_on(
     store: &mut [i64],
     hints: &mut [u8],
     scratch: &mut [u8],
-) -> Put
+) -> Result<usize, Refusal>
     requires steppable { Steppable plan.now k work.old × Rooms narrow first.old second.old scratch.old }
     requires large { holds_categories narrow (sheet_in narrow (left_of plan.now k) work.old) ≡ true → Large narrow us.old bs.old store.old hints.old first.old second.old scratch.old }
     ensures { given result work.new ≡ step_on narrow plan.now k work.old }
 {
     let numbered = Component::from_number(plan_form::component_number(plan, k));
-    let Numbered::Is(c) = numbered else {
+    let Some(c) = numbered else {
         // No plan that passed 1 has such a component.
-        return Put::Refused(refusals::NO_COMPONENT);
+        return Err(Refusal::NoComponent);
     };
     let left = plan_form::left_operand(plan, k);
     let right = plan_form::right_operand(plan, k);
@@ -59,14 +59,4 @@ pub fn step_on(
         scratch,
     );
     deliveries::deliver_sheet(put, scratch, &mut work[own..])
-}
-
-// 0, or the refusal's number.
-pub fn code_in(put: Put) -> u32
-    ensures { result ≡ put_code put }
-{
-    match put {
-        Put::At(_) => 0,
-        Put::Refused(k) => k,
-    }
 }

@@ -2,22 +2,23 @@
 use Rattle.std.specs.Prelude.{Bool, cond, ◌||◌, ℕ, ℤ, eqb}
 use Rattle.std.proofs.Math.Option.{Option}
 use Rattle.numbers.specs.Result.{Result, ok, refused}
-use Rattle.base.specs.Code.{signed_of}
-use Rattle.writer.specs.declared.Derived.{Derived}
-use Rattle.writer.specs.declared.Derived.TheVariants as D
-use Rattle.pool_fields.specs.declared.Rows.{Rows}
-use Rattle.pool_fields.specs.declared.Rows.TheVariants as R
+use Rattle.base.specs.Code.{stated}
+use Rattle.base.specs.Refusals.{number_of, Answer}
+use Rattle.std.specs.declared.result.Result.TheVariants as D
+use Rattle.std.specs.declared.option.Option as Rust
+use Rattle.std.specs.declared.option.Option.TheVariants.{Some, None}
+use Rattle.writer.specs.declared.Parts.{Parts}
 
 -- the rows' sum, or 24
-abbrev pub rows_in : Rows → Result (Option ℤ)
-rows_in (R.Are n) = ok (signed_of n)
-rows_in R.Leave = refused 24
+abbrev pub rows_in : Rust.Option (Rust.Option ℤ) → Result (Option ℤ)
+rows_in (Some n) = ok (stated n)
+rows_in None = refused 24
 
 -- the refusals of a nature that come behind 24 of the rows
 abbrev pub late : ℕ → Bool
 late k = eqb k 26 || eqb k 28
 
 -- the refusal where the rows leave 64 bits: the nature's, unless it comes behind
-abbrev pub behind_rows : Derived → ℕ
-behind_rows (D.Nature p) = 24
-behind_rows (D.Refused k) = cond (late k) 24 k
+abbrev pub behind_rows : Answer Parts → ℕ
+behind_rows (D.Ok p) = 24
+behind_rows (D.Err e) = cond (late (number_of e)) 24 (number_of e)

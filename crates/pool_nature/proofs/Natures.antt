@@ -3,11 +3,13 @@
 --     apart                          where not both are categories, what these make does not matter
 --     united_textless, united_texts  26 and 28 behind whole or bool lists united, and behind texts
 --     kept_behind                    26 and 28 behind the lists of a nature are 26 and 28 behind the nature: what holds no category is kept
+--     joint_texts, joint_lists       the stores are lent for texts, and for categories
 --     pooled_lists, pooled_apart     what the code derives, by whether both sheets hold categories
 -- Assumes nothing.
 use mathlib.Core.Path.{◌≡◌, refl, sym, ap, ap₂, subst, ◌∙◌}
 use mathlib.Core.Bool.{Bool, true, false, cond, ◌&&◌}
 use mathlib.Core.List.{List}
+use mathlib.Core.Logic.{inr}
 use Prim.Native.Nat.{ℕ, ◌≤◌}
 use native.Mathlib.Omega.{arith}
 use lib.IntN.{ℤ}
@@ -22,14 +24,16 @@ use Rattle.base.specs.Form.{Form, byte_at, nature_at, is_range_nature}
 use Rattle.base.specs.Decode.{nature_in, lists, text_in}
 use Rattle.base.specs.Encode.{nature_number, value_count, text_size}
 use Rattle.base.specs.declared.Component.{Component}
+use Rattle.base.specs.declared.Family.TheVariants as Fam
 use Rattle.base.proofs.Natures.{nature_text_lists}
 use Rattle.ends.specs.Ends.{end_rule}
 use Rattle.ends.specs.Ranges.{whole_rule, range_pair}
 use Rattle.category_lists.specs.Categories.{kept_to, text_kept, kept, same_text, united}
-use Rattle.lending.specs.Code.{Read, holds_categories}
-use Rattle.lending.proofs.Lending.{stands}
+use Rattle.lending.specs.Code.{Read, holds_categories, joins_lists, joins_texts}
+use Rattle.lending.proofs.Lending.{stands, pooled, texts_held, texts_joined}
 use Rattle.list_codes.specs.Code.{Lists}
 use Rattle.list_codes.proofs.Numbers.{number_of}
+use Rattle.list_codes.proofs.Codes.{Joint, fine_listed, categories}
 use Rattle.natures.proofs.Sorted.{both_lists}
 use Rattle.calls.specs.Natures.{whole_lists_of, bool_lists_of, united_nature, lists_united, whole_range_with, float_range_with, lists_with, two_natures, lists_pair, binary_nature, pool_nature}
 
@@ -187,6 +191,15 @@ module _ (F : Form) where
     kept_behind (bool_lists ls) r = lists_kept (bool_lists ls) r
     kept_behind (float_lists ls) r = lists_kept (float_lists ls) r
     kept_behind (text_lists ls) r = lists_kept (text_lists ls) r
+
+-- ---- what the code is lent for two operands that 19, 20, 29 and 21 pass
+
+module _ {F : Form} {left right : List ℕ} (p : Joint F left right) where
+  pub joint_texts : byte_at F nature_at left ≡ 6 → joins_texts Fam.Pool F left right ≡ true
+  joint_texts e = texts_joined F left right (inr refl) (texts_held p.left_fine.lists.read e) (texts_held p.right_fine.lists.read (sym p.same ∙ e))
+
+  pub joint_lists : joins_lists Fam.Pool F left right ≡ true
+  joint_lists = pooled refl (fine_listed p.left_fine) (categories p.left_fine) (fine_listed p.right_fine) (categories p.right_fine)
 
 -- ---- what the code derives, by whether both sheets hold categories
 

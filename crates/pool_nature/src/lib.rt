@@ -14,8 +14,9 @@ ghost use Rattle.list_codes.specs.Code.{Lists};
 ghost use Rattle.writer.specs.Written.{in_writing, derived_in, Within};
 
 use base::form::Form;
+use base::refusals::Refusal;
 use base::{Component, form};
-use writer::Derived;
+use writer::Parts;
 
 // Two category operands of Pool: 19, 20, 29 and 21, then left's lists followed by right's.
 fn united_categorical_nature(
@@ -29,15 +30,12 @@ fn united_categorical_nature(
     hints: &mut [u8],
     first: &mut [u8],
     second: &mut [u8],
-) -> Derived
+) -> Result<Parts, Refusal>
     requires lists { Lists (form_of f) left.now × Lists (form_of f) right.now × Ready (form_of f) columns first.old second.old }
     requires lent { Lent Fam.Pool (form_of f) left.now right.now us.old bs.old store.old hints.old first.old second.old }
     ensures { (derived_in result first.new second.new ≡ in_writing (form_of f) (and_then (lists_united columns (nature_in (form_of f) left.now) (nature_in (form_of f) right.now)) (kept (form_of f)))) × Within (form_of f) (nature_room Fam.Pool (form_of f) left.now right.now) first.new second.new result }
 {
-    let k = list_codes::both_lists_code(f, columns, left, right);
-    if k != 0 {
-        return Derived::Refused(k);
-    }
+    list_codes::both_lists_code(f, columns, left, right)?;
     if base::nature_of(f, left) == form::TEXT_LISTS {
         return text_lists::texts_together(
             f, false, columns, left, right, us, bs, store, first, second,
@@ -60,7 +58,7 @@ pub fn pooled_nature(
     hints: &mut [u8],
     first: &mut [u8],
     second: &mut [u8],
-) -> Derived
+) -> Result<Parts, Refusal>
     requires read { Read (form_of f) left.now × Read (form_of f) right.now × Ready (form_of f) columns first.old second.old × (family_of c ≡ Fam.Pool) }
     requires lent { Lent (family_of c) (form_of f) left.now right.now us.old bs.old store.old hints.old first.old second.old }
     ensures { (derived_in result first.new second.new ≡ in_writing (form_of f) (and_then (pool_nature c data_type columns (nature_in (form_of f) left.now) (nature_in (form_of f) right.now)) (kept (form_of f)))) × Within (form_of f) (nature_room (family_of c) (form_of f) left.now right.now) first.new second.new result }

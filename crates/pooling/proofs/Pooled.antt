@@ -9,6 +9,7 @@ use mathlib.Core.Bool.{Bool, true, false, cond}
 use mathlib.Core.List.{List}
 use mathlib.Core.Option.{Option}
 use Prim.Native.Nat.{ℕ}
+use native.Mathlib.Omega.{arith}
 use lib.IntN.{ℤ, pos}
 use lib.Dec.{ltb}
 use Rattle.numbers.specs.Result.{Result, ok, refused, and_then, checked, first_failing}
@@ -21,8 +22,10 @@ use Rattle.base.specs.Checks.{fields_fail}
 use Rattle.base.specs.Components.{family_of}
 use Rattle.base.specs.declared.Component.{Component}
 use Rattle.base.specs.declared.Family.TheVariants as Fam
-use Rattle.writer.specs.declared.Derived.{Derived}
-use Rattle.writer.specs.declared.Derived.TheVariants as D
+use Rattle.base.specs.Refusals.{number_of, Answer}
+use Rattle.base.specs.declared.refusals.Refusal.{Refusal}
+use Rattle.base.proofs.Told.{above_none}
+use Rattle.std.specs.declared.result.Result.TheVariants as D
 use Rattle.writer.specs.Written.{Written, in_writing, derived_in, sheet_from}
 use Rattle.category_lists.specs.Categories.{kept_to, text_kept, kept}
 use Rattle.shape.specs.Shape.{widest, rows_sum}
@@ -36,6 +39,7 @@ use Rattle.deliveries.proofs.Columns.{Limited, widest_limited}
 use Rattle.deliveries.proofs.Answers.{check_refuses, checks_pass, nature_refuses, nature_given, sheet_bytes_lem}
 use Rattle.pool_fields.specs.Code.{late, behind_rows}
 use Rattle.pooling.proofs.Early.{Early, pool_early}
+use Rattle.writer.specs.declared.Parts.{Parts}
 
 pub pool_columns :
     (F : Form) (left right : List ℕ) → fields_fail F left ≡ false → fields_fail F right ≡ false → first_failing (pool_checks (decode F left) (decode F right)) ≡ 0
@@ -59,7 +63,7 @@ over F n h = go (ltb F.category_limit (value_count n)) h
     go true {k} h = let e : k ≡ 26 = cc in rw e
     go false h = long (ltb F.text_limit (text_size n)) h
 
-module _ (F : Form) (c : Component) (node : ℕ) (left right : List ℕ) {k : ℕ} (code : k ≡ first_failing (pool_checks (decode F left) (decode F right))) where
+module _ (F : Form) (c : Component) (node : ℕ) (left right : List ℕ) where
   abbrev l : Sheet
   l = decode F left
 
@@ -85,11 +89,11 @@ module _ (F : Form) (c : Component) (node : ℕ) (left right : List ℕ) {k : �
   abbrev rest : Nature → Result Sheet
   rest k = and_then rows (λ n. stacked n k)
 
-  pub pool_refused : (k ≡ 0 → ⊥) → refused k ≡ pool_answer
+  pub pool_refused : (e : Refusal) → number_of e ≡ first_failing (pool_checks l r) → refused (number_of e) ≡ pool_answer
   unfolding derive_pool
-  pool_refused h = check_refuses F (pool_checks l r) nature rest bytes code h
+  pool_refused e code = check_refuses F (pool_checks l r) nature rest bytes code (λ z. omega (arith, above_none e, z))
 
-  module _ {x y : Fields} (lh : x ≡ fields_in F left) (rh : y ≡ fields_in F right) {columns : ℕ} (width : columns ≡ widest x y) (none : k ≡ 0) (pool : family_of c ≡ Fam.Pool) where
+  module _ {x y : Fields} (lh : x ≡ fields_in F left) (rh : y ≡ fields_in F right) {columns : ℕ} (width : columns ≡ widest x y) (passes : 0 ≡ first_failing (pool_checks l r)) (pool : family_of c ≡ Fam.Pool) where
     -- what the code derives
     abbrev pool_given : Result Nature
     pool_given = and_then (pool_nature c x.data_type columns (nature_in F left) (nature_in F right)) (kept F)
@@ -99,25 +103,25 @@ module _ (F : Form) (c : Component) (node : ℕ) (left right : List ℕ) {k : �
     pool_given_lem = rw (width, lh, rh)
 
     pub rows_refused :
-        (first second : List ℕ) (d : Derived) → derived_in d first second ≡ in_writing F pool_given → refused 24 ≡ rows_sum x.rows y.rows
+        (first second : List ℕ) (d : Answer Parts) → derived_in d first second ≡ in_writing F pool_given → refused 24 ≡ rows_sum x.rows y.rows
         → refused (behind_rows d) ≡ pool_answer
     unfolding decode derive_pool
     rows_refused first second d h e =
         let leave : refused 24 ≡ rows = rw (lh, rh) at e in
         go leave nature (pool_early c pool l.fields.data_type (widest l.fields r.fields) l.nature r.nature) d (h ∙ ap (in_writing F) pool_given_lem)
-        ∙ checks_pass F (pool_checks l r) nature rest bytes (pool_numbered l r) (sym code ∙ none)
+        ∙ checks_pass F (pool_checks l r) nature rest bytes (pool_numbered l r) (sym passes)
       where
         go :
-            refused 24 ≡ rows → (g : Result Nature) → Early g → (d : Derived) → derived_in d first second ≡ in_writing F (and_then g (kept F))
+            refused 24 ≡ rows → (g : Result Nature) → Early g → (d : Answer Parts) → derived_in d first second ≡ in_writing F (and_then g (kept F))
             → refused (behind_rows d) ≡ and_then (and_then g rest) (λ s. ok (bytes s))
-        go e (ok n) p (D.Nature q) h = ap (λ (g : Result (Option ℤ)). and_then (and_then g (λ m. stacked m n)) (λ s. ok (bytes s))) e
-        go e (ok n) p (D.Refused m) h =
-            ap (λ (b : Bool). refused (cond b 24 m)) (over F n h)
+        go e (ok n) p (D.Ok q) h = ap (λ (g : Result (Option ℤ)). and_then (and_then g (λ m. stacked m n)) (λ s. ok (bytes s))) e
+        go e (ok n) p (D.Err m) h =
+            ap (λ (b : Bool). refused (cond b 24 (number_of m))) (over F n h)
             ∙ ap (λ (g : Result (Option ℤ)). and_then (and_then g (λ m. stacked m n)) (λ s. ok (bytes s))) e
-        go e (refused k) p (D.Nature q) h = absurd (never h)
-        go e (refused k) p (D.Refused m) h =
-            let same : m ≡ k = cc in
-            ap (λ (b : Bool). refused (cond b 24 m)) (subst (λ (n : ℕ). late n ≡ false) (sym same) p) ∙ ap refused same
+        go e (refused k) p (D.Ok q) h = absurd (never h)
+        go e (refused k) p (D.Err m) h =
+            let same : number_of m ≡ k = cc in
+            ap (λ (b : Bool). refused (cond b 24 (number_of m))) (subst (λ (n : ℕ). late n ≡ false) (sym same) p) ∙ ap refused same
 
     module _ (n : Option ℤ) (sum : ok n ≡ rows_sum x.rows y.rows) where
       -- the rows known, 26 and 28 follow the nature
@@ -136,7 +140,7 @@ module _ (F : Form) (c : Component) (node : ℕ) (left right : List ℕ) {k : �
       pool_nature_refused h =
           answered
           (nature_refuses F (pool_checks l r) (and_then nature (kept F)) (λ k. ok (pool_sheet n l r k)) bytes (pool_numbered l r)
-          (sym code ∙ none) (h ∙ ap (in_writing F) pool_given_lem))
+          (sym passes) (h ∙ ap (in_writing F) pool_given_lem))
 
       pub pool_written :
           {w : Written} {vs : List ℕ} {h : Fields} → h ≡ pool_fields n x y → ok w ≡ in_writing F pool_given
@@ -145,5 +149,5 @@ module _ (F : Form) (c : Component) (node : ℕ) (left right : List ℕ) {k : �
       pool_written fields g e =
           answered
           (nature_given F (pool_checks l r) (and_then nature (kept F)) (λ k. ok (pool_sheet n l r k)) bytes (pool_numbered l r)
-          (sym code ∙ none) (g ∙ ap (in_writing F) pool_given_lem)
+          (sym passes) (g ∙ ap (in_writing F) pool_given_lem)
           (λ k same. sheet_bytes_lem F (with_node (pos node) (pool_sheet n l r k)) (rw (fields, lh, rh) at e) same))

@@ -15,9 +15,7 @@ ghost use Rattle.deliveries.specs.Code.{step_in, Held};
 
 use base::Component;
 use base::form::Form;
-use octets::Put;
-use pool_fields::Rows;
-use writer::Derived;
+use base::refusals::Refusal;
 
 pub fn step_pool(
     f: Form,
@@ -32,17 +30,14 @@ pub fn step_pool(
     store: &mut [i64],
     hints: &mut [u8],
     out: &mut [u8],
-) -> Put
+) -> Result<usize, Refusal>
     requires read { Read (form_of f) left.now × Read (form_of f) right.now × (family_of c ≡ Fam.Pool) }
     requires buffers { Buffers (family_of c) (form_of f) left.now right.now first.old second.old out.old × Lent (family_of c) (form_of f) left.now right.now us.old bs.old store.old hints.old first.old second.old }
     ensures { (step_in result out.new ≡ and_then (derive_pool (form_of f) c (decode (form_of f) left.now) (decode (form_of f) right.now)) (λ s. ok (encode (form_of f) (with_node (pos node) s)))) × Held result (length out.old) }
 {
     let l = base::read_head(f, left);
     let r = base::read_head(f, right);
-    let k = orders::pool_code(f, left, right, l, r);
-    if k != 0 {
-        return Put::Refused(k);
-    }
+    orders::pool_code(f, left, right, l, r)?;
     let columns = shape::widest(l, r) as usize;
     let derived = pool_nature::pooled_nature(
         f,
@@ -58,16 +53,12 @@ pub fn step_pool(
         first,
         second,
     );
-    let x = l.rows;
-    let y = r.rows;
-    let Rows::Are(rows) = pool_fields::rows_sum(x, y) else {
-        return Put::Refused(pool_fields::behind_rows(derived));
+    let Some(rows) = pool_fields::rows_sum(l.rows, r.rows) else {
+        return Err(pool_fields::behind_rows(derived));
     };
-    let Derived::Nature(p) = derived else {
-        return writer::refusal(derived);
-    };
+    let p = derived?;
     let h = pool_fields::pool_head(rows, l, r);
-    Put::At(writer::put_pair(
+    Ok(writer::put_pair(
         f,
         out,
         p,

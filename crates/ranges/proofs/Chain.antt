@@ -19,8 +19,6 @@ use Rattle.base.specs.Code.{bound_bytes}
 use Rattle.base.specs.declared.Bound.{Bound}
 use Rattle.ends.specs.Code.{ends_of}
 use Rattle.ends.specs.declared.Range.{Range}
-use Rattle.ends.specs.declared.Ends.{Ends}
-use Rattle.ends.specs.declared.Ends.TheVariants as S
 use Rattle.writer.specs.Written.{Written}
 use Rattle.ranges.specs.Chained.{after, column_then, columns_in, columns_from}
 
@@ -41,7 +39,7 @@ module _ {E : Type 0} (bits : E → ℕ) (nature : ℕ) where
         rw (same z.lower, same z.upper)
         (ap (λ (k : ℕ). ok (columns_in nature k (lowers_of bits (z ∷ zs)) (uppers_of bits (z ∷ zs)))) (omega arith))
 
-    module _ (rule : Span E → Span E → Result (Span E)) (x y : ℕ → Span E) (f : ℕ → Ends) (by : (j : ℕ) → f j ≡ ends_of bound (rule (x j) (y j))) where
+    module _ (rule : Span E → Span E → Result (Span E)) (x y : ℕ → Span E) (f : ℕ → Result Range) (by : (j : ℕ) → f j ≡ ends_of bound (rule (x j) (y j))) where
       pub chain_is : (n j : ℕ) → and_then (each_pair rule (list_from n j x) (list_from n j y)) (λ zs. ok (in_kind zs)) ≡ columns_from nature f n j
       unfolding each_pair list_from columns_from joined
       chain_is zero j = refl
@@ -62,11 +60,11 @@ after_after k m ls us ls' us' (ok w) = simp (append_assoc, add_assoc)
 after_after k m ls us ls' us' (refused n) = refl
 
 -- the first j columns stand in the two buffers, and the whole is those and then the rest
-pub record Chaining (nature : ℕ) (f : ℕ → Ends) (n j at : ℕ) (ls us : List ℕ) : Type 0 where
+pub record Chaining (nature : ℕ) (f : ℕ → Result Range) (n j at : ℕ) (ls us : List ℕ) : Type 0 where
   pub place : at ≡ 9 * j
   pub whole : columns_from nature f n 0 ≡ after j (take at ls) (take at us) (columns_from nature f (n - j) j)
 
-module _ (nature : ℕ) (f : ℕ → Ends) (n : ℕ) where
+module _ (nature : ℕ) (f : ℕ → Result Range) (n : ℕ) where
   pub chain_start : (ls us : List ℕ) → Chaining nature f n 0 0 ls us
   chain_start ls us = record { place = refl; whole = rw (sub-zero n) (sym (after_nothing (columns_from nature f n 0))) }
 
@@ -75,17 +73,16 @@ module _ (nature : ℕ) (f : ℕ → Ends) (n : ℕ) where
     unfolding columns_from
     columns_one h = let one : n - j ≡ suc (n - (j + 1)) = omega arith in rw one
 
-    -- e is what the column's function answered
-    pub chain_refused : j < n → {e : Ends} {k : ℕ} → e ≡ f j → e ≡ S.Refused k → columns_from nature f n 0 ≡ refused k
+    pub chain_refused : j < n → {k : ℕ} → refused k ≡ f j → columns_from nature f n 0 ≡ refused k
     unfolding after column_then
-    chain_refused h s t = rw (g.whole, columns_one h, ← s, t)
+    chain_refused h s = rw (g.whole, columns_one h, ← s)
 
-    pub chain_more : j < n → {e : Ends} {z : Range} → e ≡ f j → e ≡ S.Are z → {ls' us' : List ℕ} {mid end : ℕ}
+    pub chain_more : j < n → {z : Range} → ok z ≡ f j → {ls' us' : List ℕ} {mid end : ℕ}
         → Wrote ls at 9 (bound_bytes z.lower) ls' mid → Wrote us at 9 (bound_bytes z.upper) us' end → Chaining nature f n (j + 1) end ls' us'
     unfolding column_then
-    chain_more h s t {mid = mid} {end = end} v w =
+    chain_more h s {mid = mid} {end = end} v w =
         let same : mid ≡ end = omega arith in
-        record { place = omega arith; whole = rw (g.whole, columns_one h, ← s, t, after_after, ← v.front, same, ← w.front) }
+        record { place = omega arith; whole = rw (g.whole, columns_one h, ← s, after_after, ← v.front, same, ← w.front) }
 
     pub chain_done : j ≡ n → columns_from nature f n 0 ≡ ok (columns_in nature n (take (9 * n) ls) (take (9 * n) us))
     unfolding after columns_from

@@ -22,12 +22,12 @@ use Rattle.base.specs.declared.Component.{Component}
 use Rattle.base.proofs.Ends.{whole_end_lem, float_end_lem}
 use Rattle.ends.specs.Ends.{end_rule}
 use Rattle.ends.specs.Code.{whole_span, float_span, ends_of}
-use Rattle.ends.specs.declared.Ends.{Ends}
 use Rattle.writer.specs.Written.{Written, written_of, in_writing}
 use Rattle.ends.specs.Ranges.{whole_rule, range_pair, range_nature}
 use Rattle.ranges.specs.Chained.{entry_of, range_at, column_ends, column_at, range_number, columns_from}
 use Rattle.ranges.proofs.Spread.{spreads_from, repeated_from}
 use Rattle.ranges.proofs.Chain.{in_kind, chain_is}
+use Rattle.ends.specs.declared.Range.{Range}
 
 -- ---- the two kinds
 
@@ -80,7 +80,7 @@ evenness F columns l r =
     check 18 (not (spreads columns (list_count F l))) ∷ check 18 (not (spreads columns (list_count F r))) ∷ []
 
 module _ (F : Form) {E : Type 0} (read : ℕ → E) (bits : E → ℕ) (nature : ℕ) (bound : Option E → Bound) (same : (e : Option E) → bound_bytes (bound e) ≡ end_bytes bits e) where
-  module _ (rule : Span E → Span E → Result (Span E)) (columns : ℕ) (l r : List ℕ) (f : ℕ → Ends) (by : (j : ℕ) → f j ≡ ends_of bound (rule (column_in F read l j) (column_in F read r j))) where
+  module _ (rule : Span E → Span E → Result (Span E)) (columns : ℕ) (l r : List ℕ) (f : ℕ → Result Range) (by : (j : ℕ) → f j ≡ ends_of bound (rule (column_in F read l j) (column_in F read r j))) where
     abbrev in_bytes : Result (List (Span E)) → Result Written
     in_bytes g = and_then g (λ zs. ok (in_kind bits nature zs))
 

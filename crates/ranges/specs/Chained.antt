@@ -8,8 +8,6 @@ use Rattle.base.specs.declared.Component.{Component}
 use Rattle.ends.specs.Ends.{end_rule}
 use Rattle.ends.specs.Code.{whole_span, float_span, range_of, ends_of}
 use Rattle.ends.specs.declared.Range.{Range}
-use Rattle.ends.specs.declared.Ends.{Ends}
-use Rattle.ends.specs.declared.Ends.TheVariants as S
 use Rattle.writer.specs.Written.{Written}
 use Rattle.writer.specs.declared.Parts.{Parts}
 use Rattle.ends.specs.Ranges.{whole_rule}
@@ -25,12 +23,12 @@ range_at F float s i =
     (bound_at float (upper_at F (group_count F s) (list_count F s) i) s)
 
 -- the ends of a column, by the kind
-unfoldable pub column_ends : Bool → Component → ℕ → Range → Range → Ends
+unfoldable pub column_ends : Bool → Component → ℕ → Range → Range → Result Range
 column_ends float c type x y =
     cond float (ends_of of_float (end_rule K.float c (float_span x) (float_span y))) (ends_of of_whole (whole_rule c type (whole_span x) (whole_span y)))
 
 -- the ends of column j of two sheets' ranges
-unfoldable pub column_at : Form → Bool → Component → ℕ → List ℕ → List ℕ → ℕ → Ends
+unfoldable pub column_at : Form → Bool → Component → ℕ → List ℕ → List ℕ → ℕ → Result Range
 column_at F float c type l r j =
     column_ends float c type (range_at F float l (entry_of (list_count F l) j)) (range_at F float r (entry_of (list_count F r) j))
 
@@ -54,15 +52,15 @@ after k ls us (ok w) = ok (record {
 after k ls us (refused n) = refused n
 
 -- a column's ends, and then the rest: the first refusal is the answer
-unfoldable pub column_then : Ends → Result Written → Result Written
-column_then (S.Are z) rest = after 1 (bound_bytes z.lower) (bound_bytes z.upper) rest
-column_then (S.Refused k) rest = refused k
+unfoldable pub column_then : Result Range → Result Written → Result Written
+column_then (ok z) rest = after 1 (bound_bytes z.lower) (bound_bytes z.upper) rest
+column_then (refused k) rest = refused k
 
 -- a range of n columns
 abbrev pub columns_in : ℕ → ℕ → List ℕ → List ℕ → Written
 columns_in nature n ls us = record { nature = nature; entries = n; values = 0; text = 0; first = ls; second = us }
 
 -- n columns from column j on
-unfoldable pub columns_from : ℕ → (ℕ → Ends) → ℕ → ℕ → Result Written
+unfoldable pub columns_from : ℕ → (ℕ → Result Range) → ℕ → ℕ → Result Written
 columns_from nature f zero j = ok (columns_in nature 0 [] [])
 columns_from nature f (suc n) j = column_then (f j) (columns_from nature f n (j + 1))

@@ -7,13 +7,15 @@ ghost use Rattle.base.specs.Form.{form_of, nature_at, byte_at, is_range_nature};
 ghost use Rattle.base.specs.Checks.{sizes_fail};
 ghost use Rattle.base.specs.Sized.{RangeFits};
 ghost use Rattle.writer.specs.Written.{in_writing, derived_in, ends_room, Within};
+ghost use Rattle.base.specs.Refusals.{told};
 ghost use Rattle.ends.specs.Ranges.{range_nature};
 ghost use Rattle.ranges.specs.Chained.{entry_of, range_at, column_ends, column_at, range_number, range_parts, columns_from};
 
 use base::form::Form;
-use base::{Component, Sizes, form, refusals};
-use ends::{Ends, Range};
-use writer::{Derived, Parts};
+use base::refusals::Refusal;
+use base::{Component, Sizes, form};
+use ends::Range;
+use writer::Parts;
 
 // The entry of n that column j takes: its own, or the only one.
 fn entry_of(columns: usize, n: usize, j: usize) -> usize
@@ -34,8 +36,8 @@ fn entry_at(f: Form, s: &[u8], float: bool, g: usize, n: usize, i: usize) -> Ran
 }
 
 // The ends of one column. Modulo has no end rule for whole ranges of a type other than Int.
-fn column(c: Component, data_type: u8, float: bool, x: Range, y: Range) -> Ends
-    ensures { result ≡ column_ends float c data_type x y }
+fn column(c: Component, data_type: u8, float: bool, x: Range, y: Range) -> Result<Range, Refusal>
+    ensures { told result ≡ column_ends float c data_type x y }
 {
     if float {
         return float_ends::float_end_rule(c, x, y);
@@ -58,9 +60,9 @@ fn column_at(
     right: &[u8],
     r: Sizes,
     j: usize,
-) -> Ends
+) -> Result<Range, Refusal>
     requires { RangeFits (form_of f) left.now l.groups l.lists × (spreads columns l.lists ≡ true) × RangeFits (form_of f) right.now r.groups r.lists × (spreads columns r.lists ≡ true) × (j < columns) }
-    ensures { result ≡ column_at (form_of f) float c data_type left.now right.now j }
+    ensures { told result ≡ column_at (form_of f) float c data_type left.now right.now j }
 {
     let i = entry_of(columns, l.lists, j);
     let x = entry_at(f, left, float, l.groups, l.lists, i);
@@ -109,28 +111,17 @@ fn put_columns(
     r: Sizes,
     lowers: &mut [u8],
     uppers: &mut [u8],
-) -> Derived
+) -> Result<Parts, Refusal>
     requires { RangeFits (form_of f) left.now l.groups l.lists × (spreads columns l.lists ≡ true) × RangeFits (form_of f) right.now r.groups r.lists × (spreads columns r.lists ≡ true) × (columns ≤ (form_of f).column_limit) × (9 * columns ≤ length lowers.old) × (9 * columns ≤ length uppers.old) }
     ensures { (derived_in result lowers.new uppers.new ≡ columns_from (range_number float) (column_at (form_of f) float c data_type left.now right.now) columns 0) × Within (form_of f) (ends_room (form_of f)) lowers.new uppers.new result }
 {
     let mut at = 0;
-    let mut j = 0;
-    while j < columns {
-        let e = column_at(f, c, data_type, float, columns, left, l, right, r, j);
-        match e {
-            Ends::Refused(k) => {
-                return Derived::Refused(k);
-            }
-            Ends::Are(z) => {
-                let lower = z.lower;
-                let upper = z.upper;
-                base::put_bound(lowers, at, lower);
-                at = base::put_bound(uppers, at, upper);
-            }
-        }
-        j += 1;
+    for j in 0..columns {
+        let z = column_at(f, c, data_type, float, columns, left, l, right, r, j)?;
+        base::put_bound(lowers, at, z.lower);
+        at = base::put_bound(uppers, at, z.upper);
     }
-    Derived::Nature(range_parts(float, columns))
+    Ok(range_parts(float, columns))
 }
 
 // The range derived of two sheets' ranges, which are both float or both whole: its lowers and uppers stand at the start of the two buffers.
@@ -144,17 +135,17 @@ pub fn range_pair(
     right: &[u8],
     lowers: &mut [u8],
     uppers: &mut [u8],
-) -> Derived
+) -> Result<Parts, Refusal>
     requires { (sizes_fail (form_of f) left.now ≡ false) × (is_range_nature (byte_at (form_of f) nature_at left.now) ≡ true) × (sizes_fail (form_of f) right.now ≡ false) × (is_range_nature (byte_at (form_of f) nature_at right.now) ≡ true) × (columns ≤ (form_of f).column_limit) × (9 * columns ≤ length lowers.old) × (9 * columns ≤ length uppers.old) }
     ensures { (derived_in result lowers.new uppers.new ≡ in_writing (form_of f) (range_nature (form_of f) float c data_type columns left.now right.now)) × Within (form_of f) (ends_room (form_of f)) lowers.new uppers.new result }
 {
     let l = base::sizes_at(f, left);
     if !utilities::spreads(columns, l.lists) {
-        return Derived::Refused(refusals::UNEVEN_LIST);
+        return Err(Refusal::UnevenList);
     }
     let r = base::sizes_at(f, right);
     if !utilities::spreads(columns, r.lists) {
-        return Derived::Refused(refusals::UNEVEN_LIST);
+        return Err(Refusal::UnevenList);
     }
     put_columns(
         f, c, data_type, float, columns, left, l, right, r, lowers, uppers,

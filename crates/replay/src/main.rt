@@ -5,50 +5,44 @@
 mod tally; // how many lines come to what
 
 use answers::{Outcome, Stored};
-use lines::{Line, Window};
+use lines::Window;
 use std::fs::File;
+use std::io::Result;
 use std::os::fd::AsRawFd;
 use std::rt::{Env, Files};
 use tally::Tally;
-use words::STDOUT;
 
 // Says which line could not be read, or what the gate answered where it differs.
-fn report(list: Stored, line: u64, o: Outcome) {
+fn report(rt: &impl Print, list: Stored, line: u64, o: Outcome) -> Result<()> {
     match o {
-        Outcome::Comment => {}
-        Outcome::Agrees(_) => {}
-        Outcome::Unread => {
-            tally::name(list);
-            io::write_all(STDOUT, b"line ");
-            words::say(line, b" cannot be read\n");
-        }
+        Outcome::Comment => Ok(()),
+        Outcome::Agrees(_) => Ok(()),
+        Outcome::Unread => println!(rt; "{}: line {line} cannot be read", tally::name(list)),
         Outcome::Differs(_, reply) => {
-            tally::name(list);
-            io::write_all(STDOUT, b"line ");
-            words::say(line, b" differs: code ");
-            words::say(answers::code_of(reply), b", value ");
-            words::say(answers::value_of(reply), b"\n");
+            println!(rt;
+                "{}: line {line} differs: code {}, value {}",
+                tally::name(list),
+                answers::code_of(reply),
+                answers::value_of(reply)
+            )
         }
     }
 }
 
-// A proved loop has to end, and nothing says that an input does: it counts its turns down, from a number that no run uses up.
-fn replay(list: Stored, fd: i32, buf: &mut [u8]) -> Tally {
+// A proved loop has to end, and nothing says that an input does: it has more turns than any run uses up.
+fn replay(rt: &impl Print, list: Stored, fd: i32, buf: &mut [u8]) -> Result<Tally> {
     let mut tally = Tally::new();
     let mut window = Window { at: 0, end: 0 };
-    let mut turns = u64::MAX;
-    while turns > 0 {
-        let line = lines::next(fd, buf, window);
-        let Line::Is { from, to, rest } = line else {
-            return tally;
+    for _ in 0..u64::MAX {
+        let Some(line) = lines::next(fd, buf, window) else {
+            break;
         };
-        let outcome = answers::judged(list, &buf[from..to]);
+        let outcome = answers::judged(list, &buf[line.from..line.to]);
         tally = tally.counted(outcome);
-        report(list, tally.lines, outcome);
-        window = rest;
-        turns -= 1;
+        report(rt, list, tally.lines, outcome)?;
+        window = line.rest;
     }
-    tally
+    Ok(tally)
 }
 
 // Opens the file that argument k names, and says on the standard error why it cannot be.
@@ -66,18 +60,19 @@ fn open(rt: &(impl Env + Eprint + Files<File = File>), k: usize) -> Option<File>
 }
 
 // Replays the list that argument k names. What fails stands in the output.
-fn run(rt: &(impl Env + Eprint + Files<File = File>), list: Stored, k: usize) {
+fn run(
+    rt: &(impl Env + Eprint + Files<File = File> + Print),
+    list: Stored,
+    k: usize,
+) -> Result<()> {
     let Some(file) = open(rt, k) else {
-        tally::name(list);
-        io::write_all(STDOUT, b"cannot be opened\n");
-        return;
+        return println!(rt; "{}: cannot be opened", tally::name(list));
     };
     let mut buf = io::large_buffer();
-    let counts = replay(list, file.as_raw_fd(), &mut buf);
-    counts.print(list);
+    replay(rt, list, file.as_raw_fd(), &mut buf)?.print(rt, list)
 }
 
-fn main(rt: HostRuntime) {
-    run(&rt, Stored::Calls, 1);
-    run(&rt, Stored::Plans, 2);
+fn main(rt: HostRuntime) -> Result<()> {
+    run(&rt, Stored::Calls, 1)?;
+    run(&rt, Stored::Plans, 2)
 }

@@ -3,7 +3,7 @@ ghost use Rattle.std.specs.Prelude.{◌≡◌, ◌<◌, replicate};
 ghost use Rattle.replay.specs.Counts.{one_more, place_of, Counted};
 
 use answers::{Outcome, Stored, Told};
-use words::STDOUT;
+use std::io::Result;
 
 // The components are 1 to 10; 0 stands for every other number, and for a plan.
 const PLACES: usize = 11;
@@ -27,9 +27,10 @@ pub struct Tally {
 fn more(n: u64) -> u64
     ensures { result ≡ one_more n }
 {
-    if n == u64::MAX { n } else { n + 1 }
+    n.saturating_add(1)
 }
 
+#[tactic(auto, using(std::proofs::lemmas::Bool::Decides::nat_tests), unfolding(crate::specs::Counts::place_of))]
 fn place(component: u32) -> usize
     ensures { (result < 11) × (result ≡ place_of component) }
 {
@@ -84,78 +85,68 @@ impl Tally {
             Outcome::Agrees(said) => {
                 let k = place(said.component);
                 self.agree[k] = more(self.agree[k]);
-                let told = said.told;
-                self.with_told(told)
+                self.with_told(said.told)
             }
             Outcome::Differs(said, _) => {
                 let k = place(said.component);
                 self.differ[k] = more(self.differ[k]);
-                let told = said.told;
-                self.with_told(told)
+                self.with_told(said.told)
             }
         }
     }
 
-    pub(crate) fn print(self, list: Stored) {
-        let agree = self.agree;
-        let differ = self.differ;
-        name(list);
-        words::say(sum(&agree), b" agree, ");
-        words::say(sum(&differ), b" differ\n");
-        words::say(self.accepted, b" accepted, ");
-        self.print_refused(list);
-        words::say(self.unread, b" of ");
-        words::say(self.lines, b" lines cannot be read\n");
-        match list {
-            Stored::Calls => print_places(&agree, &differ),
-            Stored::Plans => {}
-        }
-    }
-
-    fn print_refused(self, list: Stored) {
+    pub(crate) fn print(self, rt: &impl Print, list: Stored) -> Result<()> {
+        let agree = sum(&self.agree);
+        let differ = sum(&self.differ);
+        println!(rt; "{}: {agree} agree, {differ} differ", name(list))?;
         match list {
             Stored::Calls => {
-                words::say(self.refused, b" refused, ");
-                words::say(self.short, b" outputs too short; ");
+                self.print_calls(rt)?;
+                self.print_places(rt)
             }
-            Stored::Plans => {
-                words::say(self.at_leaf, b" refused at a leaf, ");
-                words::say(self.refused, b" refused at a step, ");
-                words::say(self.malformed, b" malformed, ");
-                words::say(self.short, b" work buffers too short; ");
-            }
+            Stored::Plans => self.print_plans(rt),
         }
+    }
+
+    fn print_calls(self, rt: &impl Print) -> Result<()> {
+        println!(rt;
+            "{} accepted, {} refused, {} outputs too short; {} of {} lines cannot be read",
+            self.accepted, self.refused, self.short, self.unread, self.lines
+        )
+    }
+
+    fn print_plans(self, rt: &impl Print) -> Result<()> {
+        println!(rt;
+            "{} accepted, {} refused at a leaf, {} refused at a step, {} malformed, {} work buffers too short; {} of {} lines cannot be read",
+            self.accepted,
+            self.at_leaf,
+            self.refused,
+            self.malformed,
+            self.short,
+            self.unread,
+            self.lines
+        )
+    }
+
+    fn print_places(self, rt: &impl Print) -> Result<()> {
+        let agree = self.agree;
+        let differ = self.differ;
+        for k in 0..PLACES {
+            let name = words::component(k as u32);
+            println!(rt; "{name}: {} agree, {} differ", agree[k], differ[k])?;
+        }
+        Ok(())
     }
 }
 
 // A list's name, which begins what is said of it.
-pub(crate) fn name(list: Stored) {
+pub(crate) fn name(list: Stored) -> &'static str {
     match list {
-        Stored::Calls => io::write_all(STDOUT, b"single calls: "),
-        Stored::Plans => io::write_all(STDOUT, b"plans: "),
-    };
+        Stored::Calls => "single calls",
+        Stored::Plans => "plans",
+    }
 }
 
 fn sum(counts: &[u64; PLACES]) -> u64 {
-    let mut total = 0;
-    let mut k = 0;
-    while k < PLACES {
-        total = std::num::wrapping_add_u64(total, counts[k]);
-        k += 1;
-    }
-    total
-}
-
-fn print_place(component: u32, agree: u64, differ: u64) {
-    words::component(component, b": ");
-    words::say(agree, b" agree, ");
-    words::say(differ, b" differ\n");
-}
-
-fn print_places(agree: &[u64; PLACES], differ: &[u64; PLACES]) {
-    let mut k = 0;
-    while k < PLACES {
-        print_place(k as u32, agree[k], differ[k]);
-        k += 1;
-    }
+    counts.iter().fold(0, |total, n| total.wrapping_add(*n))
 }

@@ -4,8 +4,9 @@ use mathlib.Core.List.{List}
 use Prim.Native.Nat.{ℕ, ◌+◌, ◌/◌, ◌%◌, ◌^◌, ◌<◌}
 use native.Mathlib.Nat.{zero-add, mod-eq_of_lt, div-eq_of_lt, add-mul-mod_self_left, add-mul-div_left}
 use native.Mathlib.Omega.{arith}
+use Rattle.base.specs.Refusals.{number_of}
+use Rattle.base.specs.declared.refusals.Refusal.{Refusal}
 use Rattle.calls.specs.Single.{outcome, packed}
-use Rattle.plan_leaves.specs.contracts.Walked
 use Rattle.replies.specs.Reply.{replied}
 
 pub reply_is : (k v : ℕ) (bytes : List ℕ) {r : ℕ} → k < 2 ^ 32 → r ≡ packed k v → replied r bytes ≡ outcome k v bytes
@@ -14,3 +15,8 @@ reply_is k v bytes h e =
     let low : packed k v % 2 ^ 32 ≡ k = add-mul-mod_self_left k (2 ^ 32) v ∙ mod-eq_of_lt h in
     let high : packed k v / 2 ^ 32 ≡ v = add-mul-div_left k v some ∙ ap (λ (n : ℕ). n + v) (div-eq_of_lt h) ∙ zero-add v in
     rw e (ap₂ (λ (a b : ℕ). outcome a b bytes) low high)
+
+-- a refusal's number k
+pub refusal_is : (e : Refusal) (v : ℕ) (bytes : List ℕ) {k r : ℕ} → k < 2 ^ 32 → k ≡ number_of e → r ≡ packed k v
+    → replied r bytes ≡ outcome (number_of e) v bytes
+refusal_is e v bytes {k} h is p = reply_is k v bytes h p ∙ ap (λ (n : ℕ). outcome n v bytes) is

@@ -10,8 +10,7 @@ ghost use Rattle.plan_leaves.specs.Code.{SlotIn, walked, Ended};
 ghost use Rattle.rights.specs.Reveal.{showing};
 ghost use Rattle.replies.specs.Reply.{replied};
 
-use base::refusals;
-use octets::Put;
+use base::refusals::Refusal;
 use plan_leaves::Walked;
 
 // What the value of a reply is multiplied by.
@@ -26,14 +25,14 @@ pub fn reply(code: u32, value: usize) -> u64
 }
 
 // Delivers what a step left in the scratch, and replies. A refusal leaves every byte of `out` as it was.
-pub fn deliver_reply(put: Put, scratch: &[u8], out: &mut [u8]) -> u64
+pub fn deliver_reply(put: Result<usize, Refusal>, scratch: &[u8], out: &mut [u8]) -> u64
     requires { Held put (length scratch.now) × (length scratch.now < 2 ^ 32) }
     ensures { replied result out.new ≡ delivery (step_in put scratch.now) out.old }
 {
     let delivered = deliveries::deliver_sheet(put, scratch, out);
     match delivered {
-        Put::At(n) => reply(0, n),
-        Put::Refused(k) => reply(k, 0),
+        Ok(n) => reply(0, n),
+        Err(refusal) => reply(refusal.number(), 0),
     }
 }
 
@@ -44,7 +43,7 @@ pub fn walked_reply(answer: Walked) -> u64
 {
     match answer {
         Walked::Accepted(nodes) => reply(0, nodes),
-        Walked::Refused(k, node) => reply(k, node),
+        Walked::Refused(refusal, node) => reply(refusal.number(), node),
         Walked::Next(k) => 0,
     }
 }
@@ -60,5 +59,5 @@ pub fn show_reply(work: &[u8], k: usize, out: &mut [u8]) -> u64
     if octets::deliver(out, &work[start..end], n) {
         return reply(0, n);
     }
-    reply(refusals::NO_ROOM, plan_leaves::NO_NODE)
+    reply(Refusal::NoRoom.number(), plan_leaves::NO_NODE)
 }

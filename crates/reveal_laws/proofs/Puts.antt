@@ -21,8 +21,8 @@ use Rattle.base.specs.Sheet.{Sheet}
 use Rattle.base.specs.Decode.{decode}
 use Rattle.base.specs.Encode.{encode}
 use Rattle.base.specs.Components.{component_of, family_of}
-use Rattle.base.specs.declared.Numbered.{Numbered}
-use Rattle.base.specs.declared.Numbered.TheVariants as N
+use Rattle.std.specs.declared.option.Option as Rust
+use Rattle.std.specs.declared.option.Option.TheVariants as N
 use Rattle.base.specs.declared.form.Form.TheVariants as Stored
 use Rattle.base.proofs.Forms.{laid}
 use Rattle.shape.specs.Fields.{numbered}
@@ -34,6 +34,7 @@ use Rattle.derived.specs.Held.{Held, Sound}
 use Rattle.derived.proofs.Gives.{Gives, gives_more}
 use Rattle.derived.proofs.Derived.{sound_formed, sound_length}
 use Rattle.derived.proofs.Written.{Written, step_gives}
+use Rattle.base.specs.declared.Component.{Component}
 
 narrow_laid : Laid narrow
 narrow_laid = laid Stored.Narrow
@@ -99,20 +100,20 @@ module _ (k : ℕ) (vs x : List ℕ) where
 -- ---- a step
 
 -- what a component's number gives of the operands' sheets
-abbrev pub result_of : Numbered → ℕ → List ℕ → List ℕ → Result (List ℕ)
-result_of N.Unlisted k l r = refused 2
-result_of (N.Is c) k l r = step narrow c k l r
+abbrev pub result_of : Rust.Option Component → ℕ → List ℕ → List ℕ → Result (List ℕ)
+result_of N.None k l r = refused 2
+result_of (N.Some c) k l r = step narrow c k l r
 
-result_fits : (n : Numbered) (k : ℕ) (l r : List ℕ) → k < 2 ^ 32 → Held narrow (decode narrow l) → Held narrow (decode narrow r) → Gives Fit (result_of n k l r)
-result_fits N.Unlisted k l r h p q = omega arith
-result_fits (N.Is c) k l r h p q =
+result_fits : (n : Rust.Option Component) (k : ℕ) (l r : List ℕ) → k < 2 ^ 32 → Held narrow (decode narrow l) → Held narrow (decode narrow r) → Gives Fit (result_of n k l r)
+result_fits N.None k l r h p q = omega arith
+result_fits (N.Some c) k l r h p q =
     gives_more (Written narrow_laid c l r k) Fit (step narrow c k l r) (step_gives narrow_laid c l r (λ z. p) (λ z. q) k h)
     (λ vs e w. subst Fit (sym w.bytes) (sound_fit (numbered (family_of c) k w.sheet) w.sound))
 
-single_result : (n : Numbered) (k : ℕ) (l r out : List ℕ) → single_of narrow n k l r out ≡ delivery (result_of n k l r) out
+single_result : (n : Rust.Option Component) (k : ℕ) (l r out : List ℕ) → single_of narrow n k l r out ≡ delivery (result_of n k l r) out
 unfolding single_of delivery
-single_result N.Unlisted k l r out = refl
-single_result (N.Is c) k l r out = refl
+single_result N.None k l r out = refl
+single_result (N.Some c) k l r out = refl
 
 module _ (p : List ℕ) (k : ℕ) where
   -- of node k, from a buffer

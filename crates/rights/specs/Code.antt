@@ -6,6 +6,7 @@ use Rattle.plan_leaves.specs.declared.Walked.{Walked}
 use Rattle.plan_leaves.specs.declared.Walked.TheVariants as W
 use Rattle.standing.specs.Code.{NodeOf}
 use Rattle.rights.specs.Reveal.{revealed, walked_to, shown_of, reveal}
+use Rattle.base.specs.Refusals.{number_of}
 
 -- the node may be walked to
 pub record Permitted (p owners : List ℕ) (reader wanted : ℕ) (work : List ℕ) : Type 0 where
@@ -16,5 +17,5 @@ pub record Permitted (p owners : List ℕ) (reader wanted : ℕ) (work : List �
 -- the call goes on, or is refused and leaves both buffers as they were
 abbrev pub Admitted : List ℕ → List ℕ → ℕ → ℕ → List ℕ → Walked → Type 0
 Admitted p owners reader wanted work (W.Accepted n) = ⊥
-Admitted p owners reader wanted work (W.Refused k node) = ((out : List ℕ) → revealed k node work out ≡ reveal narrow p owners reader wanted work out) × Refusal k node
+Admitted p owners reader wanted work (W.Refused e node) = ((out : List ℕ) → revealed (number_of e) node work out ≡ reveal narrow p owners reader wanted work out) × Refusal (number_of e) node
 Admitted p owners reader wanted work (W.Next k) = Permitted p owners reader wanted work

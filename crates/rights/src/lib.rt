@@ -9,7 +9,7 @@ ghost use Rattle.rights.specs.Rights.{owner_bytes, owner_set, owners_of};
 ghost use Rattle.rights.specs.Reveal.{call_fails};
 ghost use Rattle.rights.specs.Code.{Admitted};
 
-use base::refusals;
+use base::refusals::Refusal;
 use plan_leaves::Walked;
 
 // The bytes of a leaf's owner set.
@@ -24,11 +24,8 @@ fn leaf_sets(plan: &[u8], owners: &[u8], sets: &mut [u64])
     ensures by_index { (k : ℕ) → k < leaf_count plan.now → get_or sets.new k 0 ≡ owner_set owners.now k }
     ensures by_index_2 { (k : ℕ) → leaf_count plan.now ≤ k → get_or sets.new k 0 ≡ get_or sets.old k 0 }
 {
-    let leaves = plan_form::leaf_count(plan);
-    let mut k = 0;
-    while k < leaves {
+    for k in 0..plan_form::leaf_count(plan) {
         sets[k] = octets::u64_at(owners, OWNER_BYTES * k);
-        k += 1;
     }
 }
 
@@ -67,13 +64,13 @@ pub fn admitted(plan: &[u8], owners: &[u8], reader: u64, wanted: usize, work: &[
     ensures { Admitted plan.now owners.now reader wanted work.now result }
 {
     if call_fails(plan, owners, wanted) {
-        return Walked::Refused(refusals::MALFORMED, plan_leaves::NO_NODE);
+        return Walked::Refused(Refusal::Malformed, plan_leaves::NO_NODE);
     }
     if plan_leaves::lacks_slots(plan, work) {
-        return Walked::Refused(refusals::NO_ROOM, plan_leaves::NO_NODE);
+        return Walked::Refused(Refusal::NoRoom, plan_leaves::NO_NODE);
     }
     if !seen(owners_of(plan, owners, wanted), reader) {
-        return Walked::Refused(refusals::NOT_SEEN, wanted);
+        return Walked::Refused(Refusal::NotSeen, wanted);
     }
     Walked::Next(wanted)
 }

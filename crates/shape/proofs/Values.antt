@@ -1,7 +1,6 @@
--- Laws of single values: equal signed numbers, a float against the literal 1, the greater of two that may be absent. Assumes nothing.
+-- Laws of single values: equal signed numbers, a float against the literal 1. Assumes nothing.
 use mathlib.Core.Path.{◌≡◌, refl, sym, ap, ◌∙◌}
 use mathlib.Core.Bool.{Bool, true, false, cond, not, ◌&&◌}
-use mathlib.Core.Option.{Option, none, some}
 use lib.IntN.{ℤ}
 use lib.Dec.{eqb}
 use lib.Ieee as Ieee
@@ -11,8 +10,6 @@ use mir.Val.{to_z, of_z}
 use borrow.Author.Tests.{eqb-true, eqb-false}
 use Rattle.numbers.specs.Kind.{eq_z, one_float}
 use Rattle.numbers.proofs.Choices.{eq_z_yes, eq_z_no}
-use Rattle.base.specs.Bounds.{is_present}
-use Rattle.shape.specs.Shape.{greater_option, greater_present}
 
 -- `==` is one of bits
 pub same_bits : (a b : ℤ) → to_z w64 (of_z w64 a) ≡ a → to_z w64 (of_z w64 b) ≡ b → eqb (of_z w64 a) (of_z w64 b) ≡ eq_z a b
@@ -25,8 +22,3 @@ same_bits a b f g = go (eqb (of_z w64 a) (of_z w64 b)) refl
 pub differs_from_one : (x : Float) → Ieee.ne x (of_bits binary64 0x3ff0_0000_0000_0000) ≡ not (Ieee.eq x one_float)
 unfolding Ieee.ne of_bits
 differs_from_one x = refl
-
-pub greater_present_is : (x y : Option ℤ) → greater_present x y ≡ cond (is_present x && is_present y) (greater_option x y) none
-greater_present_is none y = refl
-greater_present_is (some a) none = refl
-greater_present_is (some a) (some b) = refl

@@ -4,7 +4,7 @@ use Rattle.std.proofs.Math.Option.{Option, none, some}
 use Rattle.std.specs.Float.Ieee as Ieee
 use Rattle.std.specs.Float.{binary64}
 use Rattle.std.specs.Float.Ieee.{of_bits}
-use Rattle.numbers.specs.Kind.{zero_float}
+use Rattle.numbers.specs.Kind.{Kind, float, zero_float}
 use Rattle.utilities.specs.Lists.{any}
 use Rattle.base.specs.Sheet.{Nature, absent, whole_range, float_range, whole_lists, bool_lists, float_lists, text_lists, Fields, Sheet}
 use Rattle.base.specs.declared.Component.{Component}
@@ -14,11 +14,11 @@ use Rattle.base.specs.declared.Family.TheVariants as Fam
 use Rattle.shape.specs.Shape.{groups_of, widest, rows_of, greater_option}
 
 -- 01: "a float range has a column with lower < 0 < upper, lower > 0 with no upper, upper < 0 with no lower, or neither end"
-abbrev pub spans_zero : Option Float → Option Float → Bool
-spans_zero none none = true
-spans_zero none (some f) = Ieee.lt f zero_float
-spans_zero (some d) none = Ieee.lt zero_float d
-spans_zero (some d) (some f) = Ieee.lt d zero_float && Ieee.lt zero_float f
+abbrev pub spans_zero : {E : Type 0} → Kind E → Option E → Option E → Bool
+spans_zero K none none = true
+spans_zero K none (some f) = K.lt f K.zero
+spans_zero K (some d) none = K.lt K.zero d
+spans_zero K (some d) (some f) = K.lt d K.zero && K.lt K.zero f
 
 -- 01: "float categories hold NaN or a zero"
 abbrev pub nan_or_zero : ℕ → Bool
@@ -28,7 +28,7 @@ nan_or_zero bits = Ieee.is_nan (of_bits binary64 bits) || Ieee.eq (of_bits binar
 unfoldable pub divisor_sets_nullity : Nature → Bool
 divisor_sets_nullity absent = true
 divisor_sets_nullity (whole_range rs) = false
-divisor_sets_nullity (float_range rs) = any (λ r. spans_zero r.lower r.upper) rs
+divisor_sets_nullity (float_range rs) = any (λ r. spans_zero float r.lower r.upper) rs
 divisor_sets_nullity (whole_lists ls) = false
 divisor_sets_nullity (bool_lists ls) = false
 divisor_sets_nullity (float_lists ls) = any (λ l. any nan_or_zero l) ls

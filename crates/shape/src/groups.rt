@@ -25,16 +25,15 @@ fn same_group(f: Form, left: &[u8], right: &[u8], g: usize, i: usize) -> bool
 }
 
 // g groups on either side, in order.
+#[tactic(auto, using(base::proofs::Holding::held))]
 fn all_same(f: Form, left: &[u8], right: &[u8], g: usize) -> bool
     requires { GroupsFit (form_of f) left.now g × GroupsFit (form_of f) right.now g }
     ensures { result ≡ holds_from g 0 (groups_meet (form_of f) g left.now right.now) }
 {
-    let mut i = 0;
-    while i < g {
+    for i in 0..g {
         if !same_group(f, left, right, g, i) {
             return false;
         }
-        i += 1;
     }
     true
 }

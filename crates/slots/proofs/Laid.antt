@@ -1,13 +1,15 @@
 -- Laws of sheets that are laid into slots.
 -- Assumes nothing.
-use Prim.Native.Nat.{ℕ, ◌+◌, ◌-◌}
+use Prim.Native.Nat.{ℕ, suc, ◌+◌, ◌-◌, ◌≤◌, ◌<◌}
+use native.Mathlib.Numerals.{add-one}
+use native.Mathlib.Omega.{arith}
 use mathlib.Core.Path.{◌≡◌, refl, sym, ap, ◌∙◌}
 use mathlib.Core.Bool.{true}
 use mathlib.Core.Option.{Option, some, bind}
 use mathlib.Core.List.{List, [], ◌∷◌, ◌++◌}
 use lib.Dec.{leb}
-use lib.ListN.{length, take, drop}
-use lib.Seq.{drop-drop}
+use lib.ListN.{length, take, drop, get_or, drop_of_length-le}
+use lib.Seq.{drop-cons, drop-drop}
 use borrow.Rule.Slice.PartMut.{put_mid}
 use Rattle.base.specs.Form.{narrow, longest}
 use Rattle.calls.specs.Walk.{slot_at}
@@ -38,6 +40,14 @@ laid_more s ss k d e = rw e
 pub laid_none : (k : ℕ) (d : List ℕ) → laid [] k d ≡ some d
 unfolding laid
 laid_none k d = refl
+
+module _ (ss : List (List ℕ)) (n k : ℕ) (d : List ℕ) where
+  -- the text at a place, put into the next slot
+  pub laid_at : {s d' : List ℕ} → n < length ss → s ≡ get_or ss n s → placed s k d ≡ some d' → laid (drop (n + 1) ss) (k + 1) d' ≡ laid (drop n ss) k d
+  laid_at {s} h e p = rw (add-one n, drop-cons ss n s h, sym e) (sym (laid_more s (drop (suc n) ss) k d p))
+
+  pub laid_all : n ≡ length ss → laid (drop n ss) k d ≡ some d
+  laid_all e = let past : length ss ≤ n = omega arith in rw (drop_of_length-le ss past) (laid_none k d)
 
 -- the leaves, and the derived sheets behind them
 pub laid_out_lem : (line e : List ℕ) {l r m e' : List ℕ} {n : ℕ} → l ≡ field_of 2 line → r ≡ field_of 5 line → n ≡ length (texts l) → laid (texts l) 0 e ≡ some m → laid (texts r) n m ≡ some e' → laid_out line e ≡ some e'

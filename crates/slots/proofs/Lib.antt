@@ -1,2 +1,1 @@
-pub mod Splits
 pub mod Laid

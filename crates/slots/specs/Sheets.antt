@@ -1,27 +1,16 @@
 -- The sheets that a line of the list of plans lays into the slots of a work buffer.
-use Rattle.std.specs.Prelude.{ℕ, ◌+◌, ◌≡◌, cond, List, [], ◌∷◌, ◌++◌, eqb, leb, length, take, drop}
+use Rattle.std.specs.Prelude.{ℕ, ◌+◌, ◌≡◌, cond, List, [], ◌∷◌, ◌++◌, leb, length, take, drop}
+use Rattle.std.specs.Prelude as Std
+use Rattle.std.specs.Str.{bytes_eq}
 use Rattle.std.proofs.Math.Option.{Option, none, some, bind}
 use Rattle.base.specs.Form.{narrow, longest}
 use Rattle.calls.specs.Walk.{slot_at}
-use Rattle.lines.specs.Fields.{field_of}
+use Rattle.lines.specs.Fields.{parts, field_of}
 use Rattle.lines.specs.Bytes.{field_bytes}
-use Rattle.lines.specs.declared.Held.{Held}
-use Rattle.lines.specs.declared.Held.TheVariants as H
-
-unfoldable pub with_byte : ℕ → List (List ℕ) → List (List ℕ)
-with_byte x [] = (x ∷ []) ∷ []
-with_byte x (t ∷ ts) = (x ∷ t) ∷ ts
-
--- the texts that b stands between
-unfoldable pub split : ℕ → List ℕ → List (List ℕ)
-split b [] = [] ∷ []
-split b (x ∷ s) = cond (eqb x b) ([] ∷ split b s) (with_byte x (split b s))
 
 -- the texts of a field's sheets: commas, which are 44, join them, and `-`, which is 45, stands for none
 unfoldable pub texts : List ℕ → List (List ℕ)
-texts [] = split 44 []
-texts (x ∷ []) = cond (eqb x 45) [] (split 44 (x ∷ []))
-texts (x ∷ y ∷ s) = split 44 (x ∷ y ∷ s)
+texts s = cond (bytes_eq s (45 ∷ [])) [] (parts 44 s)
 
 -- a text's sheet at the start of slot k, with every other byte as it was; none where it is no text of bytes, or longer than a slot
 unfoldable pub placed : List ℕ → ℕ → List ℕ → Option (List ℕ)
@@ -42,11 +31,11 @@ unfoldable pub laid_out : List ℕ → List ℕ → Option (List ℕ)
 laid_out line d = bind (laid (leaves_of line) 0 d) (λ w. laid (texts (field_of 5 line)) (length (leaves_of line)) w)
 
 -- a field's sheets stand in the slots from k on, and the answer is the slot behind them
-abbrev pub Lays : Held → List ℕ → ℕ → List ℕ → List ℕ → Type 0
-Lays (H.Len n) s k d d' = (n ≡ k + length (texts s)) × (laid (texts s) k d ≡ some d')
-Lays H.Not s k d d' = Unit {0}
+abbrev pub Lays : Std.Option ℕ → List ℕ → ℕ → List ℕ → List ℕ → Type 0
+Lays (Std.Some n) s k d d' = (n ≡ k + length (texts s)) × (laid (texts s) k d ≡ some d')
+Lays Std.None s k d d' = Unit {0}
 
 -- the leaves of a line stand in the work buffer and in what is expected, and the derived sheets behind them in the latter alone
-abbrev pub LaidOut : Held → List ℕ → List ℕ → List ℕ → List ℕ → List ℕ → Type 0
-LaidOut (H.Len n) line w w' e e' = (n ≡ length (leaves_of line)) × (laid (leaves_of line) 0 w ≡ some w') × (laid_out line e ≡ some e')
-LaidOut H.Not line w w' e e' = Unit {0}
+abbrev pub LaidOut : Std.Option ℕ → List ℕ → List ℕ → List ℕ → List ℕ → List ℕ → Type 0
+LaidOut (Std.Some n) line w w' e e' = (n ≡ length (leaves_of line)) × (laid (leaves_of line) 0 w ≡ some w') × (laid_out line e ≡ some e')
+LaidOut Std.None line w w' e e' = Unit {0}

@@ -13,12 +13,11 @@ pub fn gather(plan: &[u8], wanted: usize, sets: &mut [u64]) -> u64
     requires { NodeOf plan.now wanted × (node_limit ≤ length sets.old) }
     ensures { result ≡ gathered plan.now (λ k. get_or sets.old k 0) wanted }
 {
-    let mut k = plan_form::leaf_count(plan);
-    while k <= wanted {
+    // `..=wanted` would ask twice in each turn whether it is the last.
+    for k in plan_form::leaf_count(plan)..wanted + 1 {
         let left = plan_form::left_operand(plan, k);
         let right = plan_form::right_operand(plan, k);
-        sets[k] = sets[k] | (sets[left] | sets[right]);
-        k += 1;
+        sets[k] |= sets[left] | sets[right];
     }
     sets[wanted]
 }
@@ -28,10 +27,8 @@ fn singles(sets: &mut [u64])
     requires { length sets.old ≤ 64 }
     ensures { (k : ℕ) → k < length sets.old → get_or sets.new k 0 ≡ 2 ^ k }
 {
-    let mut k = 0;
-    while k < sets.len() {
+    for k in 0..sets.len() {
         sets[k] = sets::only(k);
-        k += 1;
     }
 }
 

@@ -11,8 +11,8 @@ use lib.ListN.{length}
 use Rattle.numbers.specs.Result.{Result, ok, refused, and_then, Check, check, checked}
 use Rattle.numbers.specs.Checked.{checked_of, quotient_of}
 use Rattle.numbers.specs.Kind.{Kind, Span, whole, float, fitting}
-use Rattle.numbers.specs.declared.Checked.{Checked}
-use Rattle.numbers.specs.declared.Checked.TheVariants.{Fits, Leaves}
+use Rattle.std.specs.declared.option.Option as Rust
+use Rattle.std.specs.declared.option.Option.TheVariants.{Some, None}
 use Rattle.utilities.specs.Lists.{every, standardized, repeated}
 use Rattle.utilities.proofs.Built.{both_hold}
 use Rattle.utilities.specs.Columns.{spreads, each, each_pair}
@@ -80,9 +80,9 @@ checked_clear {rest} (c ∷ cs) h f =
 
 -- ---- arithmetic of the two kinds
 
-fitting_clear : (c : Checked) → Clear (fitting c)
-fitting_clear (Fits z) = value
-fitting_clear Leaves = other refl
+fitting_clear : (c : Rust.Option ℤ) → Clear (fitting c)
+fitting_clear (Some z) = value
+fitting_clear None = other refl
 
 pub record ClearKind {E : Type 0} (K : Kind E) : Type 0 where
   pub neg : (a : E) → Clear (K.neg a)

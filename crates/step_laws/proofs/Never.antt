@@ -25,8 +25,8 @@ use Rattle.base.specs.Components.{component_of, family_of, is_unary}
 use Rattle.base.specs.declared.Component.{Component}
 use Rattle.base.specs.declared.Family.{Family}
 use Rattle.base.specs.declared.Family.TheVariants as Fam
-use Rattle.base.specs.declared.Numbered.{Numbered}
-use Rattle.base.specs.declared.Numbered.TheVariants as N
+use Rattle.std.specs.declared.option.Option as Rust
+use Rattle.std.specs.declared.option.Option.TheVariants as N
 use Rattle.ends.specs.Ends.{end_rule}
 use Rattle.ends.specs.Ranges.{whole_rule}
 use Rattle.category_lists.specs.Categories.{category_rule, text_rule, same_text, ruled}
@@ -264,10 +264,10 @@ delivery_code (ok vs) out value = chosen_given (λ (o : Outcome). o.code) (leb (
 delivery_code (refused k) out (other h) = h
 
 -- a code of the single call, 0 among them
-pub single_given : (F : Form) (number : Numbered) (node : ℕ) (left right out : List ℕ) → given (single_of F number node left right out).code ≡ true
+pub single_given : (F : Form) (number : Rust.Option Component) (node : ℕ) (left right out : List ℕ) → given (single_of F number node left right out).code ≡ true
 unfolding single_of
-single_given F N.Unlisted node left right out = refl
-single_given F (N.Is c) node left right out = delivery_code (step F c node left right) out (step_clear F c node left right)
+single_given F N.None node left right out = refl
+single_given F (N.Some c) node left right out = delivery_code (step F c node left right) out (step_clear F c node left right)
 
 -- 25: no component, operands and output give it
 pub never_25 : (F : Form) (number node : ℕ) (left right out : List ℕ) → (single F number node left right out).code ≡ 25 → ⊥

@@ -8,7 +8,7 @@ use mathlib.Core.Bool.{Bool, cond}
 use mathlib.Core.List.{List}
 use Prim.Native.Nat.{ℕ}
 use lib.IntN.{ℤ, pos}
-use borrow.Author.Tests.{ne_eqb}
+use native.Mathlib.Omega.{arith}
 use Rattle.octets.specs.Le.{le_at}
 use Rattle.numbers.specs.Result.{Result, ok, refused, and_then, checked, first_failing}
 use Rattle.numbers.proofs.Results.{then_refused}
@@ -16,7 +16,10 @@ use Rattle.base.specs.Form.{Form, place, node_at}
 use Rattle.base.specs.Sheet.{Nature, Fields, Sheet}
 use Rattle.base.specs.Decode.{as_whole, fields_in, nature_in, groups_in, decode}
 use Rattle.base.specs.Encode.{encode}
+use Rattle.base.specs.Refusals.{number_of}
+use Rattle.base.specs.declared.refusals.Refusal.{Refusal}
 use Rattle.base.specs.declared.Component.{Component}
+use Rattle.base.proofs.Told.{numbered, above_none}
 use Rattle.writer.specs.Written.{Written, written_of, in_writing, sheet_from}
 use Rattle.shape.specs.Shape.{columns_of, widest}
 use Rattle.shape.specs.Fields.{pair_fields, copy_fields, adds_nullity, pair_sheet, copy_sheet, unary_sheet, with_node}
@@ -27,27 +30,30 @@ use Rattle.deliveries.proofs.Answers.{check_refuses, nature_refuses, nature_give
 use Rattle.calls.specs.Natures.{unary_nature, binary_nature}
 use Rattle.calls.specs.Derive.{derive_unary, derive_pair, derive_copy}
 
+given_number : (e : Refusal) → number_of e ≡ 0 → ⊥
+given_number e z = omega (arith, above_none e, z)
+
 module _ (F : Form) where
   -- ---- Abs and Negative
 
   abbrev node_of : List ℕ → ℤ
   node_of s = as_whole (le_at 8 (place F node_at) s)
 
-  module _ (c : Component) (left : List ℕ) {x : Fields} (head : x ≡ fields_in F left) {k : ℕ} (code : k ≡ first_failing (unary_checks x)) where
+  module _ (c : Component) (left : List ℕ) {x : Fields} (head : x ≡ fields_in F left) where
     abbrev unary_answer : Result (List ℕ)
     unary_answer = and_then (derive_unary F c (decode F left)) (λ s. ok (encode F s))
 
-    unary_code : k ≡ first_failing (unary_checks (fields_in F left))
-    unary_code = code ∙ ap (λ (x : Fields). first_failing (unary_checks x)) head
+    unary_code : {k : ℕ} → k ≡ first_failing (unary_checks x) → k ≡ first_failing (unary_checks (fields_in F left))
+    unary_code code = code ∙ ap (λ (x : Fields). first_failing (unary_checks x)) head
 
-    pub unary_refused : (k ≡ 0 → ⊥) → refused k ≡ unary_answer
+    pub unary_refused : (e : Refusal) → number_of e ≡ first_failing (unary_checks x) → refused (number_of e) ≡ unary_answer
     unfolding decode derive_unary
-    unary_refused h =
+    unary_refused e code =
         let s = decode F left in
         check_refuses F (unary_checks s.fields) (unary_nature F.category_limit c s.fields.data_type (columns_of s.fields) s.nature) (λ n. ok (unary_sheet s n))
-        (encode F) unary_code h
+        (encode F) (unary_code code) (given_number e)
 
-    module _ {columns : ℕ} (width : columns ≡ columns_of x) (none : k ≡ 0) where
+    module _ {columns : ℕ} (width : columns ≡ columns_of x) (passes : 0 ≡ first_failing (unary_checks x)) where
       abbrev unary_given : Result Nature
       unary_given = unary_nature F.category_limit c x.data_type columns (nature_in F left)
 
@@ -59,7 +65,7 @@ module _ (F : Form) where
       unary_nature_refused h =
           let s = decode F left in
           nature_refuses F (unary_checks s.fields) (unary_nature F.category_limit c s.fields.data_type (columns_of s.fields) s.nature)
-          (λ n. ok (unary_sheet s n)) (encode F) (unary_numbered s.fields) (sym unary_code ∙ none) (h ∙ ap (in_writing F) unary_given_lem)
+          (λ n. ok (unary_sheet s n)) (encode F) (unary_numbered s.fields) (sym (unary_code passes)) (h ∙ ap (in_writing F) unary_given_lem)
 
       pub unary_written :
           {w : Written} {vs : List ℕ} → ok w ≡ in_writing F unary_given → vs ≡ sheet_from F x (node_of left) (groups_in F left) w → ok vs ≡ unary_answer
@@ -67,12 +73,12 @@ module _ (F : Form) where
       unary_written h e =
           let s = decode F left in
           nature_given F (unary_checks s.fields) (unary_nature F.category_limit c s.fields.data_type (columns_of s.fields) s.nature)
-          (λ n. ok (unary_sheet s n)) (encode F) (unary_numbered s.fields) (sym unary_code ∙ none) (h ∙ ap (in_writing F) unary_given_lem)
+          (λ n. ok (unary_sheet s n)) (encode F) (unary_numbered s.fields) (sym (unary_code passes)) (h ∙ ap (in_writing F) unary_given_lem)
           (λ n same. sheet_bytes_lem F (unary_sheet s n) (rw head at e) same)
 
   -- ---- Add, Subtract, Multiply and Divide
 
-  module _ (c : Component) (node : ℕ) (left right : List ℕ) {k : ℕ} (code : k ≡ first_failing (pair_checks (decode F left) (decode F right))) where
+  module _ (c : Component) (node : ℕ) (left right : List ℕ) where
     abbrev pair_answer : Result (List ℕ)
     pair_answer = and_then (derive_pair F c (decode F left) (decode F right)) (λ s. ok (encode F (with_node (pos node) s)))
 
@@ -82,14 +88,14 @@ module _ (F : Form) where
         binary_nature F c (decode F left).fields.data_type (widest (decode F left).fields (decode F right).fields)
         (decode F left).nature (decode F right).nature
 
-    pub pair_refused : (k ≡ 0 → ⊥) → refused k ≡ pair_answer
+    pub pair_refused : (e : Refusal) → number_of e ≡ first_failing (pair_checks (decode F left) (decode F right)) → refused (number_of e) ≡ pair_answer
     unfolding derive_pair
-    pair_refused h =
+    pair_refused e code =
         let l = decode F left in
         let r = decode F right in
-        check_refuses F (pair_checks l r) pair_nature (λ n. ok (pair_sheet c l r n)) (λ s. encode F (with_node (pos node) s)) code h
+        check_refuses F (pair_checks l r) pair_nature (λ n. ok (pair_sheet c l r n)) (λ s. encode F (with_node (pos node) s)) code (given_number e)
 
-    module _ {x y : Fields} (lh : x ≡ fields_in F left) (rh : y ≡ fields_in F right) {columns : ℕ} (width : columns ≡ widest x y) (none : k ≡ 0) where
+    module _ {x y : Fields} (lh : x ≡ fields_in F left) (rh : y ≡ fields_in F right) {columns : ℕ} (width : columns ≡ widest x y) (passes : 0 ≡ first_failing (pair_checks (decode F left) (decode F right))) where
       abbrev pair_given : Result Nature
       pair_given = binary_nature F c x.data_type columns (nature_in F left) (nature_in F right)
 
@@ -103,7 +109,7 @@ module _ (F : Form) where
           let l = decode F left in
           let r = decode F right in
           nature_refuses F (pair_checks l r) pair_nature (λ n. ok (pair_sheet c l r n)) (λ s. encode F (with_node (pos node) s)) (pair_numbered l r)
-          (sym code ∙ none) (h ∙ ap (in_writing F) pair_given_lem)
+          (sym passes) (h ∙ ap (in_writing F) pair_given_lem)
 
       pub pair_written :
           {w : Written} {vs : List ℕ} {h : Fields} {more : Bool} → more ≡ adds_nullity c (nature_in F right) → h ≡ pair_fields more x y
@@ -114,12 +120,12 @@ module _ (F : Form) where
           let l = decode F left in
           let r = decode F right in
           nature_given F (pair_checks l r) pair_nature (λ n. ok (pair_sheet c l r n)) (λ s. encode F (with_node (pos node) s)) (pair_numbered l r)
-          (sym code ∙ none) (g ∙ ap (in_writing F) pair_given_lem)
+          (sym passes) (g ∙ ap (in_writing F) pair_given_lem)
           (λ n same. sheet_bytes_lem F (with_node (pos node) (pair_sheet c l r n)) (rw (fields, adds, lh, rh) at e) same)
 
   -- ---- Modulo, Log and Power
 
-  module _ (c : Component) (left right : List ℕ) {k : ℕ} (code : k ≡ first_failing (copy_checks c (decode F left) (decode F right))) where
+  module _ (c : Component) (left right : List ℕ) where
     abbrev copy_answer : Result (List ℕ)
     copy_answer = and_then (derive_copy F c (decode F left) (decode F right)) (λ s. ok (encode F s))
 
@@ -131,14 +137,14 @@ module _ (F : Form) where
     abbrev copy_rest : Nature → Result Sheet
     copy_rest n = checked (last_checks (decode F left) (decode F right)) (ok (copy_sheet (decode F left) (decode F right) n))
 
-    pub copy_refused : (k ≡ 0 → ⊥) → refused k ≡ copy_answer
+    pub copy_refused : (e : Refusal) → number_of e ≡ first_failing (copy_checks c (decode F left) (decode F right)) → refused (number_of e) ≡ copy_answer
     unfolding derive_copy
-    copy_refused h =
+    copy_refused e code =
         let l = decode F left in
         let r = decode F right in
-        check_refuses F (copy_checks c l r) copy_nature copy_rest (encode F) code h
+        check_refuses F (copy_checks c l r) copy_nature copy_rest (encode F) code (given_number e)
 
-    module _ {x : Fields} (lh : x ≡ fields_in F left) {columns : ℕ} (width : columns ≡ columns_of x) (none : k ≡ 0) where
+    module _ {x : Fields} (lh : x ≡ fields_in F left) {columns : ℕ} (width : columns ≡ columns_of x) (passes : 0 ≡ first_failing (copy_checks c (decode F left) (decode F right))) where
       abbrev copy_given : Result Nature
       copy_given = binary_nature F c x.data_type columns (nature_in F left) (nature_in F right)
 
@@ -151,30 +157,30 @@ module _ (F : Form) where
       copy_nature_refused h =
           let l = decode F left in
           let r = decode F right in
-          nature_refuses F (copy_checks c l r) copy_nature copy_rest (encode F) (copy_numbered l r c) (sym code ∙ none)
+          nature_refuses F (copy_checks c l r) copy_nature copy_rest (encode F) (copy_numbered l r c) (sym passes)
           (h ∙ ap (in_writing F) copy_given_lem)
 
-      module _ {w : Written} (g : ok w ≡ in_writing F copy_given) {m : ℕ} (last : m ≡ first_failing (last_checks (decode F left) (decode F right))) where
+      module _ {w : Written} (g : ok w ≡ in_writing F copy_given) where
         copy_nature_given : {o : Result (List ℕ)} → ((n : Nature) → written_of F n ≡ w → o ≡ and_then (copy_rest n) (λ s. ok (encode F s))) → o ≡ copy_answer
         unfolding derive_copy
         copy_nature_given f =
             let l = decode F left in
             let r = decode F right in
-            nature_given F (copy_checks c l r) copy_nature copy_rest (encode F) (copy_numbered l r c) (sym code ∙ none)
+            nature_given F (copy_checks c l r) copy_nature copy_rest (encode F) (copy_numbered l r c) (sym passes)
             (g ∙ ap (in_writing F) copy_given_lem) f
 
-        pub copy_last_refused : (m ≡ 0 → ⊥) → refused m ≡ copy_answer
-        copy_last_refused h =
+        pub copy_last_refused : (e : Refusal) → number_of e ≡ first_failing (last_checks (decode F left) (decode F right)) → refused (number_of e) ≡ copy_answer
+        copy_last_refused e last =
             let l = decode F left in
             let r = decode F right in
             copy_nature_given
-            (λ n same. sym (then_refused (λ s. ok (encode F s)) (checked_refuses (ok (copy_sheet l r n)) (last_checks l r) (sym last) (ne_eqb m 0 h))))
+            (λ n same. sym (then_refused (λ s. ok (encode F s)) (checked_refuses (ok (copy_sheet l r n)) (last_checks l r) (sym last) (numbered e))))
 
         pub copy_written :
-            {y h : Fields} {vs : List ℕ} → m ≡ 0 → y ≡ fields_in F right → h ≡ copy_fields x y
+            {y h : Fields} {vs : List ℕ} → 0 ≡ first_failing (last_checks (decode F left) (decode F right)) → y ≡ fields_in F right → h ≡ copy_fields x y
             → vs ≡ sheet_from F h (node_of left) (cond x.releasable (groups_in F right) (groups_in F left)) w → ok vs ≡ copy_answer
         unfolding decode
-        copy_written passes rh fields e =
+        copy_written last rh fields e =
             let l = decode F left in
             let r = decode F right in
             copy_nature_given
@@ -182,4 +188,4 @@ module _ (F : Form) where
             sheet_bytes_lem F (copy_sheet l r n) (rw (fields, lh, rh) at e) same
             ∙ sym
             (ap (λ (t : Result Sheet). and_then t (λ s. ok (encode F s)))
-            (checked_passes (ok (copy_sheet l r n)) (last_checks l r) (last_numbered l r) (sym last ∙ passes))))
+            (checked_passes (ok (copy_sheet l r n)) (last_checks l r) (last_numbered l r) (sym last))))

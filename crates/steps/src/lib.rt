@@ -15,8 +15,7 @@ ghost use Rattle.deliveries.specs.Code.{step_in, Held};
 
 use base::Component;
 use base::form::Form;
-use octets::Put;
-use writer::Derived;
+use base::refusals::Refusal;
 
 // Abs and Negative copy their operand but for its nature.
 pub fn step_unary(
@@ -29,18 +28,15 @@ pub fn step_unary(
     store: &mut [i64],
     hints: &mut [u8],
     out: &mut [u8],
-) -> Put
+) -> Result<usize, Refusal>
     requires read { Read (form_of f) left.now × (family_of c ≡ Fam.Unary) }
     requires buffers { Buffers (family_of c) (form_of f) left.now left.now first.old second.old out.old × Lent (family_of c) (form_of f) left.now left.now us.old us.old store.old hints.old first.old second.old }
     ensures { (step_in result out.new ≡ and_then (derive_unary (form_of f) c (decode (form_of f) left.now)) (λ s. ok (encode (form_of f) s))) × Held result (length out.old) }
 {
     let h = base::read_head(f, left);
-    let k = orders::unary_code(h);
-    if k != 0 {
-        return Put::Refused(k);
-    }
+    orders::unary_code(h)?;
     let columns = shape::columns_of(h) as usize;
-    let derived = natures::propagate_unary_nature(
+    let p = natures::propagate_unary_nature(
         f,
         c,
         h.data_type,
@@ -51,20 +47,8 @@ pub fn step_unary(
         hints,
         first,
         second,
-    );
-    match derived {
-        Derived::Refused(n) => Put::Refused(n),
-        Derived::Nature(p) => Put::At(writer::put_sheet(
-            f,
-            out,
-            p,
-            first,
-            second,
-            h,
-            base::node_at(f, left),
-            left,
-        )),
-    }
+    )?;
+    Ok(writer::put_sheet(f, out, p, first, second, h, base::node_at(f, left), left))
 }
 
 // Add, Subtract, Multiply and Divide.
@@ -81,19 +65,16 @@ pub fn step_pair(
     store: &mut [i64],
     hints: &mut [u8],
     out: &mut [u8],
-) -> Put
+) -> Result<usize, Refusal>
     requires read { Read (form_of f) left.now × Read (form_of f) right.now × (family_of c ≡ Fam.Pair) }
     requires buffers { Buffers (family_of c) (form_of f) left.now right.now first.old second.old out.old × Lent (family_of c) (form_of f) left.now right.now us.old bs.old store.old hints.old first.old second.old }
     ensures { (step_in result out.new ≡ and_then (derive_pair (form_of f) c (decode (form_of f) left.now) (decode (form_of f) right.now)) (λ s. ok (encode (form_of f) (with_node (pos node) s)))) × Held result (length out.old) }
 {
     let l = base::read_head(f, left);
     let r = base::read_head(f, right);
-    let k = orders::pair_code(f, left, right, l, r);
-    if k != 0 {
-        return Put::Refused(k);
-    }
+    orders::pair_code(f, left, right, l, r)?;
     let columns = shape::widest(l, r) as usize;
-    let derived = natures::propagate_binary_nature(
+    let p = natures::propagate_binary_nature(
         f,
         c,
         l.data_type,
@@ -106,13 +87,10 @@ pub fn step_pair(
         hints,
         first,
         second,
-    );
-    let Derived::Nature(p) = derived else {
-        return writer::refusal(derived);
-    };
+    )?;
     let more = bounds::zero::adds_nullity(f, c, right);
     let h = shape::pair_head(more, l, r);
-    Put::At(writer::put_pair(
+    Ok(writer::put_pair(
         f,
         out,
         p,
@@ -139,19 +117,16 @@ pub fn step_copy(
     store: &mut [i64],
     hints: &mut [u8],
     out: &mut [u8],
-) -> Put
+) -> Result<usize, Refusal>
     requires read { Read (form_of f) left.now × Read (form_of f) right.now × (family_of c ≡ Fam.Copy) }
     requires buffers { Buffers (family_of c) (form_of f) left.now right.now first.old second.old out.old × Lent (family_of c) (form_of f) left.now right.now us.old bs.old store.old hints.old first.old second.old }
     ensures { (step_in result out.new ≡ and_then (derive_copy (form_of f) c (decode (form_of f) left.now) (decode (form_of f) right.now)) (λ s. ok (encode (form_of f) s))) × Held result (length out.old) }
 {
     let l = base::read_head(f, left);
     let r = base::read_head(f, right);
-    let k = orders::copy_code(f, c, left, right, l, r);
-    if k != 0 {
-        return Put::Refused(k);
-    }
+    orders::copy_code(f, c, left, right, l, r)?;
     let columns = shape::columns_of(l) as usize;
-    let derived = natures::propagate_binary_nature(
+    let p = natures::propagate_binary_nature(
         f,
         c,
         l.data_type,
@@ -164,15 +139,9 @@ pub fn step_copy(
         hints,
         first,
         second,
-    );
-    let Derived::Nature(p) = derived else {
-        return writer::refusal(derived);
-    };
-    let m = orders::last_code(f, left, right, l, r);
-    if m != 0 {
-        return Put::Refused(m);
-    }
+    )?;
+    orders::last_code(f, left, right, l, r)?;
     let h = shape::copy_head(l, r);
     let node = base::node_at(f, left);
-    Put::At(writer::put_pair(f, out, p, first, second, h, node, left, right, l.releasable))
+    Ok(writer::put_pair(f, out, p, first, second, h, node, left, right, l.releasable))
 }

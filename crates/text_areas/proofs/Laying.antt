@@ -1,44 +1,28 @@
 -- Texts that are laid behind their values: the values are written over the joins, one by one, and the bytes behind all of them.
---     part_over                a part of a buffer that was lent and written: what stands before and behind it stays
 --     codes_read               a list of codes, as they are read of its bytes
 --     Laying, laying-..        i texts are laid, and those that are left
 -- Assumes nothing.
 use mathlib.Core.Path.{◌≡◌, refl, sym, ap, ap₂, subst, ◌∙◌}
 use mathlib.Core.List.{List, [], ◌∷◌, ◌++◌, map, append_assoc, append-nil}
 use Prim.Native.Nat.{ℕ, suc, ◌+◌, ◌-◌, ◌*◌, ◌^◌, ◌≤◌, ◌<◌}
-use native.Mathlib.Nat.{sub-zero, zero-add}
 use native.Mathlib.Omega.{arith}
 use lib.IntN.{ℤ, pos}
-use lib.ListN.{length, take, drop, get_or, length-append, length-drop, take-append-drop}
-use lib.Seq.{take_all, take_at, take-take, take-append-le, drop_at, drop-drop, take-add, get_or-take, get_or-drop, length-take-le}
-use borrow.Rule.Slice.PartMut.{put_mid}
+use lib.ListN.{length, take, drop, get_or, length-append, take-append-drop}
+use lib.Seq.{take-take, take-append-le, drop_at, drop-drop, take-add, get_or-take, get_or-drop, length-take-le}
 use Rattle.octets.specs.Le.{le_at, le_bytes}
 use Rattle.octets.specs.Wrote.{Wrote, Pending}
 use Rattle.octets.proofs.Widths.{length_le_bytes}
 use Rattle.octets.proofs.Round.{le_at_cong, number_back}
-use Rattle.octets.proofs.Appends.{pending_start, pending_more, pending_end}
+use Rattle.octets.proofs.Appends.{pending_more, pending_end}
 use Rattle.utilities.specs.Lists.{list_from}
 use Rattle.base.specs.Form.{Form}
 use Rattle.base.specs.Decode.{as_bits}
 use Rattle.base.specs.Encode.{joined, whole_bits, list_bytes, text_of, spot, spots_of}
-use Rattle.writer.specs.declared.Derived.TheVariants as D
-use Rattle.texts.specs.Joins.{join_in}
+use Rattle.std.specs.declared.result.Result.TheVariants as D
+use Rattle.base.specs.declared.refusals.Refusal.TheVariants.{TooMuchText}
+use Rattle.texts.specs.Joins.{part_length, left_part, right_part, join_in, JoinLies}
+use Rattle.texts.proofs.Bytes.{join_size}
 use Rattle.text_areas.specs.Areas.{laid_parts, AreaLaid}
-
--- the n bytes from `at` to `end` are lent, written, and back as ys
-module _ (d : List ℕ) (at end n : ℕ) {vs ys : List ℕ} {r : ℕ} where
-  pub part_over : end ≡ at + n → end ≤ length d → length ys ≡ length (take (end - at) (drop at d)) → Wrote (take (end - at) (drop at d)) 0 n vs ys r
-      → Wrote d at n vs (put_mid at (end - at) d ys) end × (drop end (put_mid at (end - at) d ys) ≡ drop end d)
-  part_over e h l w =
-      let lent : length (take (end - at) (drop at d)) ≡ end - at = length-take-le (end - at) (drop at d) (omega (arith, length-drop at d)) in
-      let whole : ys ≡ vs = sym (take_all r ys (omega (arith, w.next))) ∙ w.front in
-      let rest = drop (end - at) (drop at d) in
-      let split : put_mid at (end - at) d ys ≡ (take at d ++ vs) ++ rest = rw (← whole) (sym (append_assoc (take at d) ys rest)) in
-      let size : length (take at d ++ vs) ≡ end = rw (← whole) (omega (arith, length-append (take at d) ys, length-take-le at d (omega arith))) in
-      let place : at + (end - at) ≡ end = omega arith in (
-        record { next = e; front = rw split (take_at (take at d ++ vs) rest end size) },
-        rw (split, drop_at (take at d ++ vs) rest end size) (drop-drop (end - at) at d ∙ ap (λ (k : ℕ). drop k d) place),
-      )
 
 -- ---- codes and their bytes
 
@@ -145,16 +129,14 @@ module _ (F : Form) (left right s : List ℕ) (t : ℕ) where
     pub text : take at (drop (8 * t) values) ++ text_of (texts_from i) ≡ text_of all_texts
     pub joins : (k : ℕ) → i ≤ k → k < t → le_at 8 (8 * k) values ≡ le_at 8 (8 * k) s
 
-  pub laying_start : Laying 0 0 s
-  laying_start =
-      record {
-        size = rw (sub-zero t, zero-add);
-        spots = rw (sub-zero t) (pending_start s 0 (list_bytes as_bits (spots_of 0 all_texts)));
-        text = rw (sub-zero t);
-        joins = λ k l h. refl;
-      }
-
   module _ {i at : ℕ} {v : List ℕ} (l : Laying i at v) where
+    -- the next join, c as the code reads it, and how long its text is
+    pub laying_read : {c : ℕ} → i < t → c ≡ le_at 8 (8 * i) v → c ≡ le_at 8 (8 * i) s
+    laying_read h e = e ∙ l.joins i (omega arith) h
+
+    pub laying_size : {c n : ℕ} → i < t → c ≡ le_at 8 (8 * i) v → JoinLies F left right (le_at 8 (8 * i) s) → n ≡ part_length (left_part c) + part_length (right_part c) → n ≡ length (text_at F left right s i)
+    laying_size h e lies size = size ∙ ap (λ (c : ℕ). part_length (left_part c) + part_length (right_part c)) (laying_read h e) ∙ sym (join_size F lies)
+
     text_size_lem : i < t → length (text_of (texts_from i)) ≡ length (text_at F left right s i) + length (text_of (texts_from (i + 1)))
     unfolding text_of joined
     text_size_lem h = rw (texts_more i h) (length-append (text_at F left right s i) (text_of (texts_from (i + 1))))
@@ -198,14 +180,14 @@ module _ (F : Form) (left right s : List ℕ) (t : ℕ) where
 -- ---- what is answered
 
 module _ (F : Form) (n t : ℕ) (xs : List (List ℕ)) (values : List ℕ) where
-  pub area_over : F.text_limit < length (text_of xs) → AreaLaid F n t xs values (D.Refused 28)
+  pub area_over : F.text_limit < length (text_of xs) → AreaLaid F n t xs values (D.Err TooMuchText)
   area_over h = record { over = λ o. refl; given = λ o. absurd (omega arith); bytes = λ o. absurd (omega arith) }
 
   pub area_given : (at : ℕ) → at ≤ F.text_limit → at ≡ length (text_of xs) → take (8 * t + at) values ≡ list_bytes as_bits (spots_of 0 xs) ++ text_of xs
-      → AreaLaid F n t xs values (D.Nature (laid_parts F n t at))
+      → AreaLaid F n t xs values (D.Ok (laid_parts F n t at))
   area_given at h e b =
       record {
         over = λ o. absurd (omega arith);
-        given = λ o. ap (λ (k : ℕ). D.Nature (laid_parts F n t k)) e;
+        given = λ o. ap (λ (k : ℕ). D.Ok (laid_parts F n t k)) e;
         bytes = λ o. ap (λ (k : ℕ). take (8 * t + k) values) (sym e) ∙ b;
       }

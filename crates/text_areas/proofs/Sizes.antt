@@ -1,17 +1,13 @@
--- Parts as the code reads them, and how long joins may be. Assumes nothing.
+-- Parts as the code reads them. Assumes nothing.
 use mathlib.Core.Path.{◌≡◌}
 use mathlib.Core.List.{List}
-use Prim.Native.Nat.{ℕ, ◌+◌, ◌^◌, ◌<◌}
-use native.Mathlib.Omega.{arith}
+use Prim.Native.Nat.{ℕ, ◌+◌}
 use lib.ListN.{take, drop}
 use Rattle.base.specs.Form.{Form, group_count, category_count, area_at}
-use Rattle.texts.specs.Joins.{part_start, part_length, left_part, right_part, part_in, JoinLies}
+use Rattle.texts.specs.Joins.{part_start, part_length, part_in}
 
 module _ (F : Form) where
   pub part_read : (s : List ℕ) (p : ℕ) {n area from : ℕ} → n ≡ part_length p → area ≡ area_at F (group_count F s) (category_count F s) → from ≡ part_start p
       → take n (drop (area + from) s) ≡ part_in F s p
   unfolding part_in
   part_read s p e b g = (λ i. take (e i) (drop (b i + g i) s))
-
-  pub join_below : {left right : List ℕ} {c : ℕ} → JoinLies F left right c → part_length (left_part c) + part_length (right_part c) < 2 ^ 17
-  join_below h = omega (arith, h.lefts.small, h.rights.small)

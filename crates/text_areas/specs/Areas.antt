@@ -4,8 +4,9 @@ use Rattle.base.specs.Form.{Form, text_lists_nature}
 use Rattle.base.specs.Decode.{as_bits}
 use Rattle.base.specs.Encode.{text_of, spots_of, list_bytes}
 use Rattle.writer.specs.declared.Parts.{Parts}
-use Rattle.writer.specs.declared.Derived.{Derived}
-use Rattle.writer.specs.declared.Derived.TheVariants as D
+use Rattle.base.specs.Refusals.{Answer}
+use Rattle.base.specs.declared.refusals.Refusal.TheVariants.{TooMuchText}
+use Rattle.std.specs.declared.result.Result.TheVariants as D
 
 module _ (F : Form) where
   -- n lists of t texts whose area has `size` bytes, where the list numbers and the values stand in the two buffers
@@ -13,7 +14,7 @@ module _ (F : Form) where
   laid_parts n t size = record { nature = text_lists_nature; entries = n; values = t; text = size; first = F.number_width * t; second = 8 * t + size }
 
   -- the texts xs were laid end to end behind their values, or are more than an area holds
-  pub record AreaLaid (n t : ℕ) (xs : List (List ℕ)) (values : List ℕ) (r : Derived) : Type 0 where
-    pub over : F.text_limit < length (text_of xs) → r ≡ D.Refused 28
-    pub given : length (text_of xs) ≤ F.text_limit → r ≡ D.Nature (laid_parts n t (length (text_of xs)))
+  pub record AreaLaid (n t : ℕ) (xs : List (List ℕ)) (values : List ℕ) (r : Answer Parts) : Type 0 where
+    pub over : F.text_limit < length (text_of xs) → r ≡ D.Err TooMuchText
+    pub given : length (text_of xs) ≤ F.text_limit → r ≡ D.Ok (laid_parts n t (length (text_of xs)))
     pub bytes : length (text_of xs) ≤ F.text_limit → take (8 * t + length (text_of xs)) values ≡ list_bytes as_bits (spots_of 0 xs) ++ text_of xs

@@ -9,9 +9,10 @@ ghost use Rattle.base.specs.Encode.{whole_bits, list_bytes, spot};
 ghost use Rattle.texts.specs.Joins.{join_in, JoinLies, join_at};
 ghost use Rattle.text_areas.specs.Areas.{AreaLaid};
 
+use base::form;
 use base::form::Form;
-use base::{form, refusals};
-use writer::{Derived, Parts};
+use base::refusals::Refusal;
+use writer::Parts;
 
 // The bytes of a join go to `at`, left's part first. Returns the place behind them.
 fn put_join(f: Form, buf: &mut [u8], at: usize, left: &[u8], right: &[u8], c: u64) -> usize
@@ -52,28 +53,26 @@ pub fn lay_texts(
     n: usize,
     t: usize,
     values: &mut [u8],
-) -> Derived
+) -> Result<Parts, Refusal>
     requires n_bound { (n ≤ (form_of f).list_limit) × (t ≤ (form_of f).category_limit) × (8 * (form_of f).category_limit + (form_of f).text_limit ≤ length values.old) }
     requires by_index { (i : ℕ) → i < t → JoinLies (form_of f) left.now right.now (le_at 8 (8 * i) values.old) }
     ensures { (cs : List ℤ) → take (8 * t) values.old ≡ list_bytes whole_bits cs → ((i : ℕ) → i < t → whole_bits (get_or cs i (pos 0)) < 2 ^ 64) → AreaLaid (form_of f) n t (map (join_at (form_of f) left.now right.now) cs) values.new result }
 {
     let limit = f.text_limit();
     let area = form::VALUE_WIDTH * t;
-    let mut at: usize = 0;
-    let mut i: usize = 0;
-    while i < t {
+    let mut at = 0;
+    for i in 0..t {
         let place = form::VALUE_WIDTH * i;
         let c = octets::u64_at(values, place);
         let size = texts::join_length(c);
         if limit < at + size {
-            return Derived::Refused(refusals::TOO_MUCH_TEXT);
+            return Err(Refusal::TooMuchText);
         }
         put_spot(values, place, at, size);
         put_join(f, values, area + at, left, right, c);
         at += size;
-        i += 1;
     }
-    Derived::Nature(Parts {
+    Ok(Parts {
         nature: form::TEXT_LISTS,
         entries: n,
         values: t,

@@ -27,15 +27,12 @@ fn note_pairs(
     requires by_index { ((i : ℕ) → i < l → PartLies (form_of f) left.now (whole_bits (get_or us.now i (pos 0)))) × ((i : ℕ) → i < r → PartLies (form_of f) right.now (whole_bits (get_or bs.now i (pos 0)))) }
     ensures { (result ≤ length store.old + 1) × Joins (form_of f) left.now right.now result store.new × Stored result store.new (firsts (same_join (form_of f) left.now right.now) (pair_codes (take l us.now) (take r bs.now))) }
 {
-    let mut k: usize = 0;
-    let mut i: usize = 0;
-    while i < l {
-        let a = octets::complement(us[i]);
-        i += 1;
-        let mut m: usize = 0;
-        while m < r {
-            let z = octets::signed(texts::join(a, octets::complement(bs[m])));
-            m += 1;
+    let rights = &bs[..r];
+    let mut k = 0;
+    for &a in &us[..l] {
+        let p = octets::complement(a);
+        for &b in rights {
+            let z = octets::signed(texts::join(p, octets::complement(b)));
             k = texts::note_join(f, left, right, store, k, z);
         }
     }
@@ -57,17 +54,13 @@ fn note_both(
     requires by_index { ((i : ℕ) → i < l → PartLies (form_of f) left.now (whole_bits (get_or us.now i (pos 0)))) × ((i : ℕ) → i < r → PartLies (form_of f) right.now (whole_bits (get_or bs.now i (pos 0)))) × PartLies (form_of f) left.now 0 × PartLies (form_of f) right.now 0 }
     ensures { (result ≤ length store.old + 1) × Joins (form_of f) left.now right.now result store.new × Stored result store.new (firsts (same_join (form_of f) left.now right.now) (both_codes (take l us.now) (take r bs.now))) }
 {
-    let mut k: usize = 0;
-    let mut j: usize = 0;
-    while j < l {
-        k = texts::note_join(f, left, right, store, k, us[j]);
-        j += 1;
-    }
-    let mut m: usize = 0;
-    while m < r {
-        let z = octets::signed(texts::join(0, octets::complement(bs[m])));
+    let mut k = 0;
+    for &z in &us[..l] {
         k = texts::note_join(f, left, right, store, k, z);
-        m += 1;
+    }
+    for &b in &bs[..r] {
+        let z = octets::signed(texts::join(0, octets::complement(b)));
+        k = texts::note_join(f, left, right, store, k, z);
     }
     k
 }

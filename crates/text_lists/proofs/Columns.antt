@@ -10,7 +10,7 @@ use mathlib.Core.List.{List, [], ◌∷◌, ◌++◌, map, map-append, Memᴰ}
 use Prim.Native.Nat.{ℕ, zero, suc, ◌+◌, ◌^◌, ◌≤◌, ◌<◌}
 use native.Mathlib.Omega.{arith}
 use lib.IntN.{ℤ, pos}
-use lib.ListN.{length, take, drop, length-take}
+use lib.ListN.{take, drop}
 use Rattle.numbers.specs.Result.{Result, ok, and_then}
 use Rattle.utilities.specs.Lists.{list_from, firsts, standardized}
 use Rattle.utilities.specs.Columns.{each, each_pair}
@@ -132,9 +132,6 @@ module _ {F : Form} {left right : List ℕ} (laid : Laid F) (u : Joining F left 
       ∙ codes_by_lem F left right joins (parts_of F left j) (parts_of F right j) (λ z m. (parts_lie laid u.lefts j l z m).small) (λ z m. (parts_lie laid u.rights j r z m).small)
 
 -- ---- the columns that are as column j
-
-pub starts_room : {xs : List ℤ} {m : ℕ} {store : List ℤ} → Starts xs m store → m ≤ length store
-starts_room {xs} {m} {store} a = omega (arith, a.count, ap length a.start, length-take m store)
 
 -- what stands in the stores for column j are the codes of all of them
 pub codes_alike : (joins : Bool) (F : Form) (left right : List ℕ) (j end : ℕ) {l r : ℕ} {us bs : List ℤ} → Alike F left right j end

@@ -21,13 +21,14 @@ use Rattle.base.specs.Decode.{as_bits}
 use Rattle.base.specs.Encode.{joined, total, list_bytes, values_of, number_bytes, numbers_from, text_of, area_of, spot, spots_of, spots_from}
 use Rattle.base.proofs.Lists.{total_map, joined_flat, area_flat}
 use Rattle.writer.specs.Written.{in_writing, derived_in, texts_room, Within}
-use Rattle.writer.specs.declared.Derived.{Derived}
-use Rattle.writer.specs.declared.Derived.TheVariants as D
+use Rattle.base.specs.Refusals.{Answer}
+use Rattle.std.specs.declared.result.Result.TheVariants as D
 use Rattle.category_lists.specs.Categories.{kept_to, text_kept, kept}
 use Rattle.category_lists.specs.Answers.{Tally, Columns}
 use Rattle.category_lists.proofs.Columnwise.{from_end}
 use Rattle.text_areas.specs.Areas.{laid_parts, AreaLaid}
 use Rattle.text_lists.proofs.Columns.{from_are}
+use Rattle.writer.specs.declared.Parts.{Parts}
 
 -- ---- one after the other
 
@@ -95,7 +96,7 @@ module _ (F : Form) (text : ℤ → List ℕ) (codes : List (List ℤ)) where
       let values = ap (spots_of 0) (map_flat text codes) ∙ spots_flat 0 texts in
       ap₂ ◌++◌ (ap (list_bytes as_bits) values ∙ joined_flat (λ v. le_bytes 8 v) (spots_from 0 texts)) area_is
 
-module _ {F : Form} (text : ℤ → List ℕ) (codes : List (List ℤ)) {n t : ℕ} {values : List ℕ} {r : Derived} (few : t ≤ F.category_limit) (laid : AreaLaid F n t (map text (flatten codes)) values r) where
+module _ {F : Form} (text : ℤ → List ℕ) (codes : List (List ℤ)) {n t : ℕ} {values : List ℕ} {r : Answer Parts} (few : t ≤ F.category_limit) (laid : AreaLaid F n t (map text (flatten codes)) values r) where
   pub texts_laid : (numbers : List ℕ) → n ≡ length codes → t ≡ total codes → take (F.number_width * t) numbers ≡ numbers_from F 0 codes
       → derived_in r numbers values ≡ in_writing F (kept F (text_lists (texts_of text codes)))
   unfolding text_kept
@@ -111,14 +112,14 @@ module _ {F : Form} (text : ℤ → List ℕ) (codes : List (List ℤ)) {n t : �
       by e = ap (λ (b : Bool). in_writing F (cond b (refused 28) (ok (text_lists (texts_of text codes))))) (sym e ∙ ap (λ (l : List ℕ). ltb F.text_limit (length l)) (area_is F text codes))
 
       go : (b : Bool) → ltb F.text_limit bytes ≡ b → derived_in r numbers values ≡ in_writing F (text_kept F.text_limit (text_lists (texts_of text codes)))
-      go true e = ap (λ (d : Derived). derived_in d numbers values) (laid.over (ltb-true F.text_limit bytes e)) ∙ by e
+      go true e = ap (λ (d : Answer Parts). derived_in d numbers values) (laid.over (ltb-true F.text_limit bytes e)) ∙ by e
       go false e =
           let h = ltb-false F.text_limit bytes e in
           let entries = size ∙ sym (length-map codes (map text)) in
           let total = count ∙ sym (total_map text codes) in
           let numbers-are = first ∙ sym (numbers_spots text F 0 0 codes) in
           let values-are = laid.bytes h ∙ second_is F text codes in
-          ap (λ (d : Derived). derived_in d numbers values) (laid.given h)
+          ap (λ (d : Answer Parts). derived_in d numbers values) (laid.given h)
           ∙ (λ i. ok (record { nature = text_lists_nature; entries = entries i; values = total i; text = length (area_is F text codes i); first = numbers-are i; second = values-are i }))
           ∙ by e
 
@@ -133,7 +134,7 @@ module _ {F : Form} (text : ℤ → List ℕ) (codes : List (List ℤ)) {n t : �
       go false e =
           let h = ltb-false F.text_limit bytes e in
           let more = mul-le-mul_left F.number_width few in
-          let placed : Within F (texts_room F) numbers values (D.Nature (laid_parts F n t bytes)) =
+          let placed : Within F (texts_room F) numbers values (D.Ok (laid_parts F n t bytes)) =
           record { entries = lists; values = few; text = h; first_held = omega arith; second_held = omega arith; both = omega arith }
           in
           subst (Within F (texts_room F) numbers values) (sym (laid.given h)) placed

@@ -14,8 +14,8 @@ ghost use Rattle.texts.specs.Joins.{join_at};
 ghost use Rattle.text_lists.specs.Codes.{Joining, together, column_codes};
 
 use base::form::Form;
-use base::refusals;
-use writer::Derived;
+use base::refusals::Refusal;
+use writer::Parts;
 
 // n columns in order, of each the texts joined or united; 26, then 28.
 fn texts_into(
@@ -29,13 +29,14 @@ fn texts_into(
     store: &mut [i64],
     numbers: &mut [u8],
     values: &mut [u8],
-) -> Derived
+) -> Result<Parts, Refusal>
     requires joining { Joining (form_of f) left.now right.now × ((list_count (form_of f) left.now ≡ 1 → ⊥) → n ≤ list_count (form_of f) left.now) × ((list_count (form_of f) right.now ≡ 1 → ⊥) → n ≤ list_count (form_of f) right.now) × (n ≤ (form_of f).list_limit) }
     requires text_stores { TextStores (form_of f) us.old bs.old store.old numbers.old values.old }
     ensures { (derived_in result numbers.new values.new ≡ in_writing (form_of f) (kept (form_of f) (text_lists (list_from n 0 (λ j. map (join_at (form_of f) left.now right.now) (column_codes joins (form_of f) left.now right.now j)))))) × Within (form_of f) (texts_room (form_of f)) numbers.new values.new result }
 {
-    let mut t: usize = 0;
-    let mut j: usize = 0;
+    let mut t = 0;
+    let mut j = 0;
+    // No `for`: a turn takes all columns from j up to end, which are alike.
     while j < n {
         let l = texts::column_texts(f, left, j, us);
         let r = texts::column_texts(f, right, j, bs);
@@ -45,7 +46,7 @@ fn texts_into(
         j = end;
     }
     if f.category_limit() < t {
-        return Derived::Refused(refusals::OVER_THE_LIMIT);
+        return Err(Refusal::OverTheLimit);
     }
     text_areas::lay_texts(f, left, right, n, t, values)
 }
@@ -62,7 +63,7 @@ pub fn texts_together(
     store: &mut [i64],
     numbers: &mut [u8],
     values: &mut [u8],
-) -> Derived
+) -> Result<Parts, Refusal>
     requires joining { Joining (form_of f) left.now right.now × (0 < columns) × (columns ≤ (form_of f).column_limit) }
     requires text_stores { TextStores (form_of f) us.old bs.old store.old numbers.old values.old }
     ensures { (derived_in result numbers.new values.new ≡ in_writing (form_of f) (and_then (together joins columns (lists (form_of f) left.now (text_in (form_of f) left.now)) (lists (form_of f) right.now (text_in (form_of f) right.now))) (λ ns. kept (form_of f) (text_lists ns)))) × Within (form_of f) (texts_room (form_of f)) numbers.new values.new result }

@@ -1,7 +1,8 @@
 -- Parts and joins byte by byte, and texts compared.
 --     part_length_lem, join_size             how many bytes they have
 --     part_at, join_left, join_right     where byte i of them stands
---     same_lengths, same_more, same_end  `same_text` from byte i on
+--     same_lengths                       texts of other lengths
+--     Comparing, comparing-..            a loop that compares two texts byte by byte
 --     same_refl, same_equal              `same_text` is equality
 -- Assumes nothing.
 use mathlib.Core.Path.{◌≡◌, refl, sym, ap, ap₂, ◌∙◌}
@@ -13,7 +14,7 @@ use native.Mathlib.Omega.{arith}
 use lib.ListN.{length, drop, get_or, length-append, length-drop, drop_of_length-le, get_or-append}
 use lib.Seq.{length-take-le, get_or-take, get_or-drop, get_or-append-add, drop-cons}
 use lib.Dec.{eqb}
-use borrow.Author.Tests.{eqb-true, eq-eqb}
+use borrow.Author.Tests.{eqb-true, eq-eqb, ne_eqb}
 use Rattle.base.specs.Form.{Form, group_count, category_count, area_at}
 use Rattle.category_lists.specs.Categories.{same_text}
 use Rattle.texts.specs.Joins.{part_start, part_length, left_part, right_part, part_in, join_in, PartLies, JoinLies}
@@ -69,15 +70,36 @@ same_lengths (x ∷ xs) (y ∷ ys) h = go (eqb x y) (same_lengths xs ys (λ e. h
     go true e = e
     go false e = refl
 
-module _ (xs ys : List ℕ) (i : ℕ) where
-  pub same_more : i < length xs → i < length ys
-      → same_text (drop i xs) (drop i ys) ≡ (eqb (get_or xs i 0) (get_or ys i 0) && same_text (drop (i + 1) xs) (drop (i + 1) ys))
-  unfolding same_text
-  same_more h k = rw (drop-cons xs i 0 h, drop-cons ys i 0 k, add-one i)
+-- xs and ys, of n bytes each, are the same if they are from byte i on
+pub record Comparing (xs ys : List ℕ) (n i : ℕ) (whole : Bool) : Type 0 where
+  pub first : length xs ≡ n
+  pub second : length ys ≡ n
+  pub rest : same_text (drop i xs) (drop i ys) ≡ whole
 
-  pub same_end : length xs ≤ i → length ys ≤ i → same_text (drop i xs) (drop i ys) ≡ true
+pub comparing_start : {xs ys : List ℕ} {n : ℕ} → length xs ≡ n → length ys ≡ n → Comparing xs ys n 0 (same_text xs ys)
+comparing_start e f = record { first = e; second = f; rest = refl }
+
+module _ {xs ys : List ℕ} {n i : ℕ} {whole : Bool} (inv : Comparing xs ys n i whole) where
+  -- the bytes at i, as they are read
+  module _ (h : i < n) {x y : ℕ} (e : x ≡ get_or xs i 0) (f : y ≡ get_or ys i 0) where
+    step : same_text (drop i xs) (drop i ys) ≡ (eqb x y && same_text (drop (i + 1) xs) (drop (i + 1) ys))
+    unfolding same_text
+    step = rw (drop-cons xs i 0 (rw inv.first h), drop-cons ys i 0 (rw inv.second h), add-one i, e, f)
+
+    pub comparing_more : x ≡ y → Comparing xs ys n (i + 1) whole
+    comparing_more same =
+        let rest = same_text (drop (i + 1) xs) (drop (i + 1) ys) in
+        record { first = inv.first; second = inv.second; rest = sym (step ∙ ap (λ (t : Bool). t && rest) (eq-eqb x y same)) ∙ inv.rest }
+
+    pub comparing_failed : (x ≡ y → ⊥) → false ≡ whole
+    comparing_failed other = let rest = same_text (drop (i + 1) xs) (drop (i + 1) ys) in sym (step ∙ ap (λ (t : Bool). t && rest) (ne_eqb x y other)) ∙ inv.rest
+
+  pub comparing_done : n ≤ i → true ≡ whole
   unfolding same_text
-  same_end h k = rw (drop_of_length-le xs h, drop_of_length-le ys k)
+  comparing_done h =
+      let first : drop i xs ≡ [] = drop_of_length-le xs (rw inv.first h) in
+      let second : drop i ys ≡ [] = drop_of_length-le ys (rw inv.second h) in
+      sym (ap₂ same_text first second) ∙ inv.rest
 
 pub same_refl : (xs : List ℕ) → same_text xs xs ≡ true
 unfolding same_text

@@ -102,12 +102,10 @@ fn same_join(f: Form, left: &[u8], right: &[u8], a: u64, b: u64) -> bool
     if n != join_length(b) {
         return false;
     }
-    let mut i: usize = 0;
-    while i < n {
+    for i in 0..n {
         if join_byte(f, left, right, a, i) != join_byte(f, left, right, b, i) {
             return false;
         }
-        i += 1;
     }
     true
 }
@@ -120,12 +118,10 @@ fn has_join(f: Form, left: &[u8], right: &[u8], store: &[i64], k: usize, z: i64)
     ensures { result ≡ has (same_join (form_of f) left.now right.now) z (take k store.now) }
 {
     let c = octets::complement(z);
-    let mut i: usize = 0;
-    while i < k {
-        if same_join(f, left, right, c, octets::complement(store[i])) {
+    for &v in &store[..k] {
+        if same_join(f, left, right, c, octets::complement(v)) {
             return true;
         }
-        i += 1;
     }
     false
 }
@@ -158,17 +154,12 @@ fn text_list(f: Form, s: &[u8], j: usize, out: &mut [i64]) -> usize
     let g = sizes.groups;
     let lists = sizes.lists;
     let t = sizes.categories;
-    let mut n: usize = 0;
-    let mut i: usize = 0;
-    while i < t {
-        let number = base::list_number(f, s, g, lists, t, i);
-        let at = f.value_at(g, t, i);
-        i += 1;
-        if number != j {
-            continue;
+    let mut n = 0;
+    for i in 0..t {
+        if base::list_number(f, s, g, lists, t, i) == j {
+            let p = part(base::u64_at(s, f.value_at(g, t, i)));
+            n = note_join(f, s, s, out, n, octets::signed(p));
         }
-        let p = part(base::u64_at(s, at));
-        n = note_join(f, s, s, out, n, octets::signed(p));
     }
     n
 }

@@ -1,25 +1,26 @@
 // The single step: `propagate_property` of the ten components, from the operands' bytes to the derived sheet's.
 #![tactic(auto)]
 
-ghost use Rattle.std.specs.Prelude.{◌≡◌, cond, length};
+ghost use Rattle.std.specs.Prelude.{◌≡◌, length};
 ghost use Rattle.base.specs.Form.{form_of};
-ghost use Rattle.base.specs.Checks.{read};
-ghost use Rattle.base.specs.Code.{code_of};
-ghost use Rattle.base.specs.Components.{family_of, is_unary};
+ghost use Rattle.base.specs.Components.{family_of};
+ghost use Rattle.base.specs.Refusals.{code_in};
 ghost use Rattle.calls.specs.Single.{step};
 ghost use Rattle.lending.specs.Code.{Lent, Buffers};
 ghost use Rattle.deliveries.specs.Code.{step_in, Held};
+ghost use Rattle.transforms.specs.Code.{right_code_of};
 
 use base::form::Form;
+use base::refusals::Refusal;
 use base::{Component, Family};
-use octets::Put;
 
 // 3 to 5 of the right sheet, where the family reads it.
-fn right_code(f: Form, family: Family, right: &[u8]) -> u32
-    ensures { result ≡ cond (is_unary family) 0 (code_of (read (form_of f) right.now)) }
+#[tactic(auto, unfolding(crate::specs::Code::right_code_of))]
+fn right_code(f: Form, family: Family, right: &[u8]) -> Result<(), Refusal>
+    ensures { code_in result ≡ right_code_of (form_of f) family right.now }
 {
     if family.is_unary() {
-        return 0;
+        return Ok(());
     }
     checks::check_sheet(f, right)
 }
@@ -38,19 +39,13 @@ pub fn step(
     store: &mut [i64],
     hints: &mut [u8],
     out: &mut [u8],
-) -> Put
+) -> Result<usize, Refusal>
     requires { Buffers (family_of c) (form_of f) left.now right.now first.old second.old out.old × Lent (family_of c) (form_of f) left.now right.now us.old bs.old store.old hints.old first.old second.old }
     ensures { (step_in result out.new ≡ step (form_of f) c node left.now right.now) × Held result (length out.old) }
 {
-    let k = checks::check_sheet(f, left);
-    if k != 0 {
-        return Put::Refused(k);
-    }
+    checks::check_sheet(f, left)?;
     let family = c.family();
-    let m = right_code(f, family, right);
-    if m != 0 {
-        return Put::Refused(m);
-    }
+    right_code(f, family, right)?;
     match family {
         Family::Unary => steps::step_unary(f, c, left, first, second, us, store, hints, out),
         Family::Pair => steps::step_pair(

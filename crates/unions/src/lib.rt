@@ -16,7 +16,8 @@ ghost use Rattle.calls.specs.Natures.{united_nature};
 ghost use Rattle.unions.specs.Code.{Uniting, union_of};
 
 use base::form::Form;
-use writer::Derived;
+use base::refusals::Refusal;
+use writer::Parts;
 
 // The first n values go behind the k that were noted, each unless it is among them. Returns how many there are then, or one more than there is room for.
 fn note_values(store: &mut [i64], k: usize, values: &[i64], n: usize, hints: &mut [u8]) -> usize
@@ -24,10 +25,8 @@ fn note_values(store: &mut [i64], k: usize, values: &[i64], n: usize, hints: &mu
     ensures { (result ≤ length store.old + 1) × Hinting hints.new (take result store.new) × ((seen : List ℤ) → Stored k store.old seen → Stored result store.new (firsts_from eq_z seen (take n values.now))) }
 {
     let mut count = k;
-    let mut i: usize = 0;
-    while i < n {
-        count = category_lists::note_result(store, count, values[i], hints);
-        i += 1;
+    for &v in &values[..n] {
+        count = category_lists::note_result(store, count, v, hints);
     }
     count
 }
@@ -62,15 +61,16 @@ fn unions_into(
     hints: &mut [u8],
     numbers: &mut [u8],
     values: &mut [u8],
-) -> Derived
+) -> Result<Parts, Refusal>
     requires listed { Listed (form_of f) left.now × ((list_count (form_of f) left.now ≡ 1 → ⊥) → n ≤ list_count (form_of f) left.now) }
     requires listed_2 { Listed (form_of f) right.now × ((list_count (form_of f) right.now ≡ 1 → ⊥) → n ≤ list_count (form_of f) right.now) }
     requires n_bound { n ≤ (form_of f).list_limit }
     requires stores { Stores (form_of f) us.old bs.old store.old hints.old × Arrays (form_of f) numbers.old values.old }
     ensures { (derived_in result numbers.new values.new ≡ lists_written (form_of f) nature (each_from (union_of eq_z (lists (form_of f) left.now as_whole) (lists (form_of f) right.now as_whole)) n 0)) × Within (form_of f) (lists_room (form_of f)) numbers.new values.new result }
 {
-    let mut t: usize = 0;
-    let mut j: usize = 0;
+    let mut t = 0;
+    let mut j = 0;
+    // No `for`: a turn takes all columns from j up to end, which are alike.
     while j < n {
         let l = category_lists::column_list(f, left, j, us, hints);
         let r = category_lists::column_list(f, right, j, bs, hints);
@@ -94,7 +94,7 @@ pub fn lists_united(
     hints: &mut [u8],
     numbers: &mut [u8],
     values: &mut [u8],
-) -> Derived
+) -> Result<Parts, Refusal>
     requires uniting { Uniting (form_of f) left.now right.now × (0 < columns) × (columns ≤ (form_of f).column_limit) }
     requires stores { Stores (form_of f) us.old bs.old store.old hints.old × Arrays (form_of f) numbers.old values.old }
     ensures { (derived_in result numbers.new values.new ≡ in_writing (form_of f) (and_then (united_nature columns (nature_in (form_of f) left.now) (nature_in (form_of f) right.now)) (kept_to (form_of f).category_limit))) × Within (form_of f) (lists_room (form_of f)) numbers.new values.new result }

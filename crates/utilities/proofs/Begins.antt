@@ -11,8 +11,8 @@ use lib.Seq.{take-suc-set, drop-set-lt, drop-drop, length-take-le}
 use Rattle.numbers.specs.Kind.{eq_z}
 use Rattle.utilities.specs.Lists.{has, noted}
 use Rattle.utilities.specs.Noted.{Begins, Lacks, Notes}
-use Rattle.utilities.specs.declared.Noted.{Noted}
-use Rattle.utilities.specs.declared.Noted.TheVariants.{At, Full}
+use Rattle.std.specs.declared.option.Option as Rust
+use Rattle.std.specs.declared.option.Option.TheVariants.{Some, None}
 use Rattle.utilities.proofs.Firsts.{noted_known, noted_new, noted_keeps}
 
 -- v is what the code reads of a local that holds x
@@ -57,9 +57,9 @@ module _ {values : List ℤ} {n : ℕ} {out₀ out : List ℤ} (b : Begins value
       }
 
 -- what `note_hinted` answered
-module _ (n : ℕ) (x : ℤ) (before after : List ℤ) {r : Noted} where
-  pub notes_at : {m : ℕ} → r ≡ At m → Notes n x before after r → Begins (noted eq_z (take n before) x) m before after
+module _ (n : ℕ) (x : ℤ) (before after : List ℤ) {r : Rust.Option ℕ} where
+  pub notes_at : {m : ℕ} → r ≡ Some m → Notes n x before after r → Begins (noted eq_z (take n before) x) m before after
   notes_at e h = subst (Notes n x before after) e h
 
-  pub notes_full : r ≡ Full → Notes n x before after r → Lacks n x before after
+  pub notes_full : r ≡ None → Notes n x before after r → Lacks n x before after
   notes_full e h = subst (Notes n x before after) e h

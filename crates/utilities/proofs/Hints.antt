@@ -13,8 +13,8 @@ use Rattle.numbers.specs.Kind.{eq_z}
 use Rattle.numbers.proofs.Choices.{eq_z_no}
 use Rattle.utilities.specs.Lists.{has}
 use Rattle.utilities.specs.Noted.{Hinting, hint_count, hint_at, held}
-use Rattle.utilities.specs.declared.Noted.{Noted}
-use Rattle.utilities.specs.declared.Noted.TheVariants.{At, Full}
+use Rattle.std.specs.declared.option.Option as Rust
+use Rattle.std.specs.declared.option.Option.TheVariants.{Some, None}
 use Rattle.utilities.proofs.Firsts.{has_append}
 
 -- no value was noted yet
@@ -50,9 +50,9 @@ hinting_added {hints} {values} x h some-hint within old =
     }
 
 -- what `note_hinted` answered
-module _ (n : ℕ) (out : List ℤ) {hints : List ℕ} {r : Noted} where
-  pub hinting_at : {m : ℕ} → r ≡ At m → Hinting hints (take (held n r) out) → Hinting hints (take m out)
-  hinting_at e h = subst (λ (q : Noted). Hinting hints (take (held n q) out)) e h
+module _ (n : ℕ) (out : List ℤ) {hints : List ℕ} {r : Rust.Option ℕ} where
+  pub hinting_at : {m : ℕ} → r ≡ Some m → Hinting hints (take (held n r) out) → Hinting hints (take m out)
+  hinting_at e h = subst (λ (q : Rust.Option ℕ). Hinting hints (take (held n q) out)) e h
 
-  pub hinting_full : r ≡ Full → Hinting hints (take (held n r) out) → Hinting hints (take n out)
-  hinting_full e h = subst (λ (q : Noted). Hinting hints (take (held n q) out)) e h
+  pub hinting_full : r ≡ None → Hinting hints (take (held n r) out) → Hinting hints (take n out)
+  hinting_full e h = subst (λ (q : Rust.Option ℕ). Hinting hints (take (held n q) out)) e h

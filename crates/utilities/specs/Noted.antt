@@ -4,8 +4,8 @@ use Rattle.std.specs.Int.{w64}
 use Rattle.std.proofs.Common.{of_z}
 use Rattle.numbers.specs.Kind.{eq_z}
 use Rattle.utilities.specs.Lists.{has, noted}
-use Rattle.utilities.specs.declared.Noted.{Noted}
-use Rattle.utilities.specs.declared.Noted.TheVariants.{At, Full}
+use Rattle.std.specs.declared.option.Option as Rust
+use Rattle.std.specs.declared.option.Option.TheVariants.{Some, None}
 
 -- `values`, m of them, stand at the start; behind them nothing changed
 pub record Begins (values : List ℤ) (m : ℕ) (before after : List ℤ) : Type 0 where
@@ -20,9 +20,9 @@ pub record Lacks (n : ℕ) (x : ℤ) (before after : List ℤ) : Type 0 where
   pub same : after ≡ before
 
 -- `note_hinted`, by its reply
-abbrev pub Notes : ℕ → ℤ → List ℤ → List ℤ → Noted → Type 0
-Notes n x before after (At m) = Begins (noted eq_z (take n before) x) m before after
-Notes n x before after Full = Lacks n x before after
+abbrev pub Notes : ℕ → ℤ → List ℤ → List ℤ → Rust.Option ℕ → Type 0
+Notes n x before after (Some m) = Begins (noted eq_z (take n before) x) m before after
+Notes n x before after None = Lacks n x before after
 
 -- ---- hints
 
@@ -40,6 +40,6 @@ pub record Hinting (hints : List ℕ) (values : List ℤ) : Type 0 where
   pub new : (x : ℤ) → get_or hints (hint_at x) 0 ≡ 0 → has eq_z x values ≡ false
 
 -- how many values there are after `note_hinted`
-abbrev pub held : ℕ → Noted → ℕ
-held n (At m) = m
-held n Full = n
+abbrev pub held : ℕ → Rust.Option ℕ → ℕ
+held n (Some m) = m
+held n None = n

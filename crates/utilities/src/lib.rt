@@ -14,27 +14,17 @@ pub fn spreads(columns: usize, n: usize) -> bool
     (n == columns) | (n == 1)
 }
 
-// Whether x is among the first n values.
+// Whether x is among the first n values. `contains` takes half as long again where there are many.
 fn has(s: &[i64], n: usize, x: i64) -> bool
     requires { n ≤ length s.now }
     ensures { result ≡ has eq_z x (take n s.now) }
 {
-    let mut i = 0;
-    while i < n {
-        if s[i] == x {
+    for y in &s[..n] {
+        if *y == x {
             return true;
         }
-        i += 1;
     }
     false
-}
-
-#[derive(Clone, Copy)]
-pub enum Noted {
-    // How many values there are then.
-    At(usize),
-    // The value is new, and there is no room for it.
-    Full,
 }
 
 // ---- hints
@@ -47,11 +37,7 @@ pub fn clear_hints(hints: &mut [u8])
     requires { length hints.old ≡ hint_count }
     ensures { hints.new ≡ replicate hint_count 0 }
 {
-    let mut i = 0;
-    while i < HINTS {
-        hints[i] = 0;
-        i += 1;
-    }
+    hints.fill(0);
 }
 
 // Where the hint of x stands.
@@ -85,19 +71,20 @@ fn has_hinted(s: &[i64], n: usize, x: i64, hints: &[u8], at: usize) -> bool
     has(s, n, x)
 }
 
-// A value goes behind the first n, unless it is among them. The hints go on telling which values were noted.
-pub fn note_hinted(out: &mut [i64], n: usize, x: i64, hints: &mut [u8]) -> Noted
+// A value goes behind the first n, unless it is among them; the answer is how many there are then, or none where there is no room for one more. The hints go on
+// telling which values were noted.
+pub fn note_hinted(out: &mut [i64], n: usize, x: i64, hints: &mut [u8]) -> Option<usize>
     requires { (n ≤ length out.old) × Hinting hints.old (take n out.old) }
     ensures { Notes n x out.old out.new result × Hinting hints.new (take (held n result) out.new) }
 {
     let at = hint_at(x);
     if has_hinted(out, n, x, hints, at) {
-        return Noted::At(n);
+        return Some(n);
     }
     if n < out.len() {
         hints[at] = hint_of(n);
         out[n] = x;
-        return Noted::At(n + 1);
+        return Some(n + 1);
     }
-    Noted::Full
+    None
 }

@@ -1,15 +1,13 @@
 -- A nature as it is written: its number, its sizes, and the bytes of its two arrays.
 use Rattle.std.specs.Prelude.{List, [], ◌++◌, ℕ, ◌+◌, ◌*◌, ◌≤◌, ℤ, length, take}
-use Rattle.octets.specs.declared.Put.{Put}
-use Rattle.octets.specs.declared.Put.TheVariants as U
 use Rattle.numbers.specs.Result.{Result, ok, refused, and_then}
 use Rattle.base.specs.Form.{Form}
 use Rattle.base.specs.Sheet.{Group, Nature, absent, whole_range, float_range, whole_lists, bool_lists, float_lists, text_lists, Fields}
 use Rattle.base.specs.Decode.{as_bits}
 use Rattle.base.specs.Encode.{whole_bits, float_bits, lowers_of, uppers_of, numbers_from, values_of, front_bytes, group_bytes, nature_number, entry_count, value_count, text_size, spots_from, area_of}
 use Rattle.writer.specs.declared.Parts.{Parts}
-use Rattle.writer.specs.declared.Derived.{Derived}
-use Rattle.writer.specs.declared.Derived.TheVariants as D
+use Rattle.base.specs.Refusals.{number_of, Answer}
+use Rattle.std.specs.declared.result.Result.TheVariants as D
 
 pub record Written : Type 0 where
   pub nature : ℕ
@@ -71,9 +69,9 @@ parts_in p f s = record {
   second = take p.second s;
 }
 
-abbrev pub derived_in : Derived → List ℕ → List ℕ → Result Written
-derived_in (D.Nature p) f s = ok (parts_in p f s)
-derived_in (D.Refused k) f s = refused k
+abbrev pub derived_in : Answer Parts → List ℕ → List ℕ → Result Written
+derived_in (D.Ok p) f s = ok (parts_in p f s)
+derived_in (D.Err e) f s = refused (number_of e)
 
 module _ (F : Form) where
   -- the bytes that the two arrays have at most: of a range, and of categories
@@ -96,11 +94,6 @@ module _ (F : Form) where
     pub second_held : p.second ≤ length second
     pub both : p.first + p.second ≤ room
 
-  abbrev pub Within : ℕ → List ℕ → List ℕ → Derived → Type 0
-  Within room first second (D.Nature p) = Placed room first second p
-  Within room first second (D.Refused k) = Unit {0}
-
--- the refusal that a derived nature is (0 where it is none)
-abbrev pub refusal_of : Derived → Put
-refusal_of (D.Nature p) = U.Refused 0
-refusal_of (D.Refused k) = U.Refused k
+  abbrev pub Within : ℕ → List ℕ → List ℕ → Answer Parts → Type 0
+  Within room first second (D.Ok p) = Placed room first second p
+  Within room first second (D.Err e) = Unit {0}

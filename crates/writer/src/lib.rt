@@ -7,13 +7,12 @@ ghost use Rattle.octets.specs.Wrote.{Wrote};
 ghost use Rattle.base.specs.Form.{form_of, place, fields_end, group_count, entries_at};
 ghost use Rattle.base.specs.Decode.{as_bits, groups_in};
 ghost use Rattle.base.specs.Encode.{whole_bits, flag, mark, bits_of, mark_bytes, value_bytes, flag_bytes, presence_bytes, size_bytes, gap_bytes, front_bytes};
-ghost use Rattle.base.specs.Code.{signed_of, bits_in, head_fields};
-ghost use Rattle.writer.specs.Written.{sheet_from, parts_in, refusal_of};
+ghost use Rattle.base.specs.Code.{stated, head_fields};
+ghost use Rattle.writer.specs.Written.{sheet_from, parts_in};
 ghost use Rattle.writer.specs.Room.{Room};
 
 use base::form::Form;
-use base::{Head, OptionI64, OptionU64, form};
-use octets::Put;
+use base::{Head, form};
 
 // A derived nature whose two arrays stand at the start of two lent buffers: lowers and uppers of a range, or list numbers and values of categories, behind
 // which texts have their area.
@@ -31,55 +30,33 @@ pub struct Parts {
     pub second: usize,
 }
 
-// What deriving a nature answers.
-#[derive(Clone, Copy)]
-pub enum Derived {
-    Nature(Parts),
-    Refused(u32),
-}
-
 // ---- a field as a byte or as 64 bits
 
 fn flag_byte(b: bool) -> u8
     ensures { result ≡ flag b }
 {
-    if b { 1 } else { 0 }
+    b as u8
 }
 
-fn signed_mark(v: OptionI64) -> u8
-    ensures { result ≡ mark (signed_of v) }
+fn mark<T: Copy>(v: Option<T>) -> u8
+    ensures { result ≡ mark (stated v) }
+{
+    v.is_some() as u8
+}
+
+fn signed_bits(v: Option<i64>) -> u64
+    ensures { result ≡ bits_of whole_bits (stated v) }
 {
     match v {
-        OptionI64::Absent => 0,
-        OptionI64::Is(_) => 1,
+        None => 0,
+        Some(z) => octets::complement(z),
     }
 }
 
-fn plain_mark(v: OptionU64) -> u8
-    ensures { result ≡ mark (bits_in v) }
+fn plain_bits(v: Option<u64>) -> u64
+    ensures { result ≡ bits_of as_bits (stated v) }
 {
-    match v {
-        OptionU64::Absent => 0,
-        OptionU64::Is(_) => 1,
-    }
-}
-
-fn signed_bits(v: OptionI64) -> u64
-    ensures { result ≡ bits_of whole_bits (signed_of v) }
-{
-    match v {
-        OptionI64::Absent => 0,
-        OptionI64::Is(z) => octets::complement(z),
-    }
-}
-
-fn plain_bits(v: OptionU64) -> u64
-    ensures { result ≡ bits_of as_bits (bits_in v) }
-{
-    match v {
-        OptionU64::Absent => 0,
-        OptionU64::Is(bits) => bits,
-    }
+    v.unwrap_or(0)
 }
 
 // ---- the parts of a sheet: each appends at `at`, and returns the place behind what it wrote
@@ -89,12 +66,9 @@ pub fn put_bytes(buf: &mut [u8], at: usize, src: &[u8], from: usize, n: usize) -
     requires { (at + n ≤ length buf.old) × (from + n ≤ length src.now) }
     ensures { Wrote buf.old at n (take n (drop from src.now)) buf.new result }
 {
-    let mut i = 0;
-    while i < n {
-        buf[at + i] = base::byte_at(src, from + i);
-        i += 1;
-    }
-    at + n
+    let end = at + n;
+    buf[at..end].copy_from_slice(&src[from..from + n]);
+    end
 }
 
 // A size: 16 bits or 32.
@@ -154,16 +128,11 @@ fn put_presence(buf: &mut [u8], at: usize, head: Head) -> usize
     requires { at + 5 ≤ length buf.old }
     ensures { Wrote buf.old at 5 (presence_bytes (head_fields head)) buf.new result }
 {
-    let rows = head.rows;
-    let columns = head.columns;
-    let dataset = head.dataset;
-    let dimensionality = head.dimensionality;
-    let sample = head.sample;
-    let end = octets::put_u8(buf, at, signed_mark(rows));
-    let end = octets::put_u8(buf, end, plain_mark(columns));
-    let end = octets::put_u8(buf, end, signed_mark(dataset));
-    let end = octets::put_u8(buf, end, signed_mark(dimensionality));
-    octets::put_u8(buf, end, plain_mark(sample))
+    let end = octets::put_u8(buf, at, mark(head.rows));
+    let end = octets::put_u8(buf, end, mark(head.columns));
+    let end = octets::put_u8(buf, end, mark(head.dataset));
+    let end = octets::put_u8(buf, end, mark(head.dimensionality));
+    octets::put_u8(buf, end, mark(head.sample))
 }
 
 // 01's bytes 6 to 31: the size of the text area between zeros at the end.
@@ -185,16 +154,11 @@ fn put_values(buf: &mut [u8], at: usize, head: Head) -> usize
     requires { at + 40 ≤ length buf.old }
     ensures { Wrote buf.old at 40 (value_bytes (head_fields head)) buf.new result }
 {
-    let rows = head.rows;
-    let columns = head.columns;
-    let dataset = head.dataset;
-    let dimensionality = head.dimensionality;
-    let sample = head.sample;
-    let end = octets::put_u64(buf, at, signed_bits(rows));
-    let end = octets::put_u64(buf, end, plain_bits(columns));
-    let end = octets::put_u64(buf, end, signed_bits(dataset));
-    let end = octets::put_u64(buf, end, signed_bits(dimensionality));
-    octets::put_u64(buf, end, plain_bits(sample))
+    let end = octets::put_u64(buf, at, signed_bits(head.rows));
+    let end = octets::put_u64(buf, end, plain_bits(head.columns));
+    let end = octets::put_u64(buf, end, signed_bits(head.dataset));
+    let end = octets::put_u64(buf, end, signed_bits(head.dimensionality));
+    octets::put_u64(buf, end, plain_bits(head.sample))
 }
 
 // The zero bytes between the last field and the arrays: none or two.
@@ -263,14 +227,4 @@ pub fn put_pair(
         return put_sheet(f, out, p, first, second, h, node, right);
     }
     put_sheet(f, out, p, first, second, h, node, left)
-}
-
-// The refusal that a derived nature is.
-pub fn refusal(derived: Derived) -> Put
-    ensures { result ≡ refusal_of derived }
-{
-    match derived {
-        Derived::Refused(k) => Put::Refused(k),
-        Derived::Nature(_) => Put::Refused(0),
-    }
 }

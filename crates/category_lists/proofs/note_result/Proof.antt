@@ -52,9 +52,9 @@ returns-3 c =
     let room : a.k ≤ length store = c.if-store-k.false in
     let after = c.note_hinted.new.out in
     let read : to_z w64 (of_z w64 a.v) ≡ a.v = search rules in
-    let begins = notes_at a.k _ store after c.in-At.is c.note_hinted.ensures.0 in (
+    let begins = notes_at a.k _ store after c.in-Some.is c.note_hinted.ensures.0 in (
       omega (arith, begins_room begins, c.note_hinted.auto.out),
-      hinting_at a.k after c.in-At.is c.note_hinted.ensures.1,
+      hinting_at a.k after c.in-Some.is c.note_hinted.ensures.1,
       λ seen h. stored_noted eq_z h read room begins.start (begins_room begins),
     )
 

@@ -13,7 +13,7 @@ use Rattle.base.specs.Form.{form_of}
 use Rattle.base.specs.declared.Component.{Component}
 use Rattle.category_lists.specs.Categories.{rule_of}
 use Rattle.category_lists.proofs.Columnwise.{column_in}
-use Rattle.category_lists.proofs.Gathering.{Going}
+use Rattle.category_lists.proofs.Gathering.{Going, said}
 use Rattle.category_lists.proofs.Noting.{noted_from, Making}
 use Rattle.category_maps.proofs.maps_into.Given as goal
 
@@ -21,19 +21,16 @@ use Rattle.category_maps.proofs.maps_into.Given as goal
 abbrev pub rest_of : Component → List ℤ → ℕ → List ℤ → Result (List ℤ)
 rest_of c us i seen = noted_from eq_z (λ a. rule_of c a a) seen (drop i us)
 
-abbrev pub invariant-loop-i : goal.invariant-loop-i
-invariant-loop-i l = record {
-  fine : l.code ≡ 0;
+abbrev pub invariant-loop-a : goal.invariant-loop-a
+invariant-loop-a l = record {
+  fine : said l.refused ≡ 0;
   bound : l.k ≤ length l.store + 1;
   hinted : Hinting l.hints (take l.k l.store);
-  making : Making l.k l.store (rest_of l.c (take l.l l.us) l.i) (column_in true l.c (form_of l.f) l.left l.left l.j);
+  making : Making l.k l.store (rest_of l.c l.a-items l.a-index) (column_in true l.c (form_of l.f) l.left l.left l.j);
 }
 
-abbrev pub decreases-loop-i : goal.decreases-loop-i
-decreases-loop-i l = l.l - l.i
-
 abbrev pub invariant-product : goal.invariant-product
-invariant-product l = Going (form_of l.f) (column_in true l.c (form_of l.f) l.left l.left) l.n l.fn.numbers l.fn.values l.numbers l.values l.code l.t l.j
+invariant-product l = Going (form_of l.f) (column_in true l.c (form_of l.f) l.left l.left) l.n l.fn.numbers l.fn.values l.numbers l.values (said l.refused) l.t l.j
 
 abbrev pub decreases-product : goal.decreases-product
 decreases-product l = l.n - l.j

@@ -1,10 +1,7 @@
--- The window stands in the buffer, which keeps its length. The measure is the number of turns that are left.
+-- The window stands in the buffer, which keeps its length.
 use Rattle.std.proofs.Common.{◌≡◌, length}
 use Rattle.lines.specs.Window.{Open}
 use Rattle.replay.proofs.replay.Given as goal
 
-abbrev pub invariant-loop-turns : goal.invariant-loop-turns
-invariant-loop-turns l = Open l.window (length l.buf) × (length l.buf ≡ length l.fn.buf)
-
-abbrev pub decreases-loop-turns : goal.decreases-loop-turns
-decreases-loop-turns l = l.turns
+abbrev pub invariant-loop : goal.invariant-loop
+invariant-loop g l = Open l.window (length l.buf) × (length l.buf ≡ length l.fn.buf)

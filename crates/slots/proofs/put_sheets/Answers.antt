@@ -1,26 +1,32 @@
--- No sheet, where the field says so; else the text up to the next comma is put into slot k, and is the last one where it ends the field.
-use Rattle.std.proofs.Common.{[], sym, ap, ◌∙◌, length, arith}
+-- No sheet, where the field says so; else each text in turn is put into the next slot. Assumes nothing.
+use Rattle.std.proofs.Common.{rules, tests, ◌==◌, sym, ap, ◌∙◌, arith}
 use Rattle.std.proofs.Math.Nat.{add-zero}
-use Rattle.slots.proofs.Splits.{not_both, split_last, split_more, texts_none, texts_some}
-use Rattle.slots.proofs.Laid.{laid_more, laid_none}
+use Rattle.std.specs.Slice.Iter as slice
+use Rattle.std.proofs.lemmas.Iterator.Consumers.{YieldsList-turn, YieldsList-end}
+use Rattle.std.proofs.lemmas.Iterator.Splits.{YieldsList-from_slice_split}
+use Rattle.std.proofs.lemmas.List.{length_push}
+use Rattle.lines.specs.Fields.{parts}
+use Rattle.slots.specs.Sheets.{texts}
+use Rattle.slots.proofs.Laid.{laid_at, laid_all, laid_none}
 use Rattle.slots.proofs.put_sheets.Goals as goal
 
-pub returns-then-same : goal.returns-then-same
-returns-then-same c =
-    let none = texts_none c.args.s.now (c.same.ensures.0 c.if-same.true) in
-    (rw (none, add-zero), rw none (laid_none _ _))
+pub returns-then-eq : goal.returns-then-eq
+unfolding texts
+returns-then-eq c = rw (sym c.eq.ensures ∙ c.if-eq.true) (rw add-zero, laid_none _ _)
 
-pub returns-then-to-s : goal.returns-then-to-s
-returns-then-to-s c =
-    let l = c.loop-k in
-    let all = texts_some c.args.s.now (λ e. not_both c.if-same.false (c.same.ensures.1 e)) in
-    let last = split_last c.find-to.ensures c.if-to-s.true in
-    let placed = c.put_sheet.ensures c.if-not-put_sheet.false in
-    (rw all (omega (arith, l.invariant.2, ap length last)), rw all (sym l.invariant.3 ∙ rw last (laid_more _ [] _ _ placed ∙ laid_none _ _)))
+pub loop-text-preserved : goal.loop-text-preserved
+loop-text-preserved c =
+    let l = c.loop-text in
+    let from = c.into_iter-text-iterator.ensures.into_iter_gives in
+    let cut = c.split-text-items.ensures in
+    let t = YieldsList-turn (YieldsList-from_slice_split _ (λ b. b == 44) c.args.s.now (ap slice.split_rest from ∙ cut.rest) (ap slice.split_done from ∙ cut.done) (ap slice.split_callee from ∙ cut.closure) (λ x r q k. search (rules, tests))) l.yielded _ l.yielded_by _ _ c.in-Some.text c.in-Some.is c.next.ensures.steps in
+    rw (length_push l.yielded c.in-Some.text) (omega arith, laid_at (parts 44 c.args.s.now) _ l.k l.buf t.0 t.1 (c.put_sheet.ensures c.if-not-put_sheet.false) ∙ l.invariant.1)
 
-pub loop-k-preserved : goal.loop-k-preserved
-loop-k-preserved c =
-    let l = c.loop-k in
-    let more = split_more c.find-to.ensures c.if-to-s.false in
-    let placed = c.put_sheet.ensures c.if-not-put_sheet.false in
-    (omega (arith, c.find-to.ensures.high), c.put_sheet.auto.buf ∙ l.invariant.1, omega (arith, l.invariant.2, ap length more), sym (rw more (laid_more _ _ _ _ placed)) ∙ l.invariant.3)
+pub returns : goal.returns
+unfolding texts
+returns c =
+    let l = c.loop-text in
+    let from = c.into_iter-text-iterator.ensures.into_iter_gives in
+    let cut = c.split-text-items.ensures in
+    let t = YieldsList-end (YieldsList-from_slice_split _ (λ b. b == 44) c.args.s.now (ap slice.split_rest from ∙ cut.rest) (ap slice.split_done from ∙ cut.done) (ap slice.split_callee from ∙ cut.closure) (λ x r q k. search (rules, tests))) l.yielded _ l.yielded_by _ _ c.in-None.is c.next.ensures.steps in
+    rw (sym c.eq.ensures ∙ c.if-eq.false) (omega (arith, t.1), sym l.invariant.1 ∙ laid_all (parts 44 c.args.s.now) _ l.k l.buf t.1)

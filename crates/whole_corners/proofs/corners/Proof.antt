@@ -10,8 +10,8 @@ unfolding corners
 returns-5 c =
     let l = c.least in
     let u = c.greatest in
-    rw (c.in-Fits.is, c.in-Fits-q.is, c.in-Fits-r.is, c.in-Fits-s.is, reads l.result (search rules), reads u.result (search rules), l.ensures, u.ensures)
-    (rw (reads c.in-Fits.a (search rules), reads c.in-Fits-q.b (search rules), reads c.in-Fits-r.c (search rules), reads c.in-Fits-s.d (search rules)))
+    rw (c.in-Some.is, c.in-Some-q.is, c.in-Some-r.is, c.in-Some-s.is, reads l.result (search rules), reads u.result (search rules), l.ensures, u.ensures)
+    (rw (reads c.in-Some.a (search rules), reads c.in-Some-q.b (search rules), reads c.in-Some-r.c (search rules), reads c.in-Some-s.d (search rules)))
 
 pub corners_spec : {M : Type 1} → statement M
 unfolding corners
@@ -23,13 +23,13 @@ corners_spec =
     (λ c. rw c.in_default.is)
     (λ c. search rules)
     (λ c. search rules)
-    (λ c. rw (c.in-Fits.is, c.in_default-q.is))
+    (λ c. rw (c.in-Some.is, c.in_default-q.is))
     (λ c. search rules)
     (λ c. search rules)
-    (λ c. rw (c.in-Fits.is, c.in-Fits-q.is, c.in_default-r.is))
+    (λ c. rw (c.in-Some.is, c.in-Some-q.is, c.in_default-r.is))
     (λ c. search rules)
     (λ c. search rules)
-    (λ c. rw (c.in-Fits.is, c.in-Fits-q.is, c.in-Fits-r.is, c.in_default-s.is))
+    (λ c. rw (c.in-Some.is, c.in-Some-q.is, c.in-Some-r.is, c.in_default-s.is))
     (λ c κs. search rules)
     (λ c κs. search rules)
     returns-5)

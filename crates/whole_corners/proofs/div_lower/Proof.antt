@@ -19,7 +19,7 @@ returns-2 c =
     let f = c.ranges in
     let first = rw (to_z-of_z f.a, to_z-of_z f.d) at c.checked_div.ensures in
     let second = rw (to_z-of_z f.c, to_z-of_z f.d) at c.checked_div-2.ensures in
-    rw (← first, c.in-Fits.is, ← second, c.in_default-checked_div.is)
+    rw (← first, c.in-Some.is, ← second, c.in_default-checked_div.is)
 
 returns-3 : tie.Need-returns
 unfolding div_lower
@@ -28,7 +28,7 @@ returns-3 c =
     let first = rw (to_z-of_z f.a, to_z-of_z f.d) at c.checked_div.ensures in
     let second = rw (to_z-of_z f.c, to_z-of_z f.d) at c.checked_div-2.ensures in
     let r = c.lesser in
-    rw (← first, c.in-Fits.is, ← second, c.in-Fits-checked_div.is, reads r.result (search rules), r.ensures, reads c.in-Fits.p (search rules), reads c.in-Fits-checked_div.q (search rules))
+    rw (← first, c.in-Some.is, ← second, c.in-Some-checked_div.is, reads r.result (search rules), r.ensures, reads c.in-Some.p (search rules), reads c.in-Some-checked_div.q (search rules))
 
 pub div_lower_spec : {M : Type 1} → statement M
 div_lower_spec =

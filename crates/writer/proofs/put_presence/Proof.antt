@@ -12,7 +12,7 @@ returns c =
     let second = third.before.before.before.before.before in
     same_bytes
     (c.put_u8-end.ensures then c.put_u8-end-2.ensures then c.put_u8-end-3.ensures then c.put_u8-end-4.ensures then c.put_u8.ensures)
-    (rw (c.signed_mark.ensures, c.plain_mark.ensures, c.signed_mark-2.ensures, c.signed_mark-3.ensures, c.plain_mark-2.ensures))
+    (rw (c.mark.ensures, c.mark-2.ensures, c.mark-3.ensures, c.mark-4.ensures, c.mark-5.ensures))
 
 pub put_presence_spec : {M : Type 1} → statement M
 put_presence_spec =

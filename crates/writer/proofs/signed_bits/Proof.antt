@@ -7,10 +7,10 @@ use borrow.Author.Rules.{rules}
 use Rattle.writer.proofs.signed_bits.Statement.{statement}
 use Rattle.writer.proofs.signed_bits.Tie as tie
 
-returns-2 : tie.Need-returns-in-Is
+returns-2 : tie.Need-returns-in-Some
 returns-2 c =
-    let back = to_z-of_z {w = w64} {z = c.in-Is.z} (record { sfits = c.in-Is.known_told-1-own.given.0.1 }) in
-    rw c.in-Is.is (c.complement.ensures ∙ ap (of_z w64) back)
+    let back = to_z-of_z {w = w64} {z = c.in-Some.z} (record { sfits = c.in-Some.known_told-1-own.given.0.1 }) in
+    rw c.in-Some.is (c.complement.ensures ∙ ap (of_z w64) back)
 
 pub signed_bits_spec : {M : Type 1} → statement M
 signed_bits_spec =

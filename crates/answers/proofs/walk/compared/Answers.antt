@@ -1,16 +1,16 @@
--- What `bytes_of` put is what the field tells, within the buffer, and the gate answers as defined.
+-- What `bytes_of` put is what the field tells, and the gate answers as defined. Assumes nothing.
 use Prim.Native.Nat.{ℕ}
 use mathlib.Core.Path.{◌≡◌, sym}
 use mathlib.Core.Option.{some, bind}
 use mathlib.Core.List.{List}
-use lib.ListN.{length}
+use Rattle.std.specs.Prelude as Std
 use Rattle.base.specs.Form.{narrow}
 use Rattle.calls.specs.Single.{Outcome, outcome}
 use Rattle.calls.specs.Walk as Walk
 use Rattle.answers.specs.Texts.{bytes_at}
 use Rattle.slots.specs.Sheets.{laid, leaves_of, laid_out}
 use Rattle.answers.specs.PlanLine.{plan_asks, plan_stores}
-use Rattle.answers.proofs.Buffers.{confirms, bytes_told, put_within, put_length}
+use Rattle.answers.proofs.Buffers.{confirms, bytes_told}
 use Rattle.answers.proofs.walk.compared.Goals as goal
 
 asked : (line work : List ℕ) {p w : List ℕ} {o : Outcome} → bytes_at 0 line ≡ some p → laid (leaves_of line) 0 work ≡ some w → o ≡ Walk.plan narrow p w → plan_asks line work ≡ some o
@@ -21,21 +21,10 @@ stored : (line : List ℕ) (code value : ℕ) (d : List ℕ) {d' : List ℕ} →
 unfolding plan_stores bind
 stored line code value d e = rw e
 
-pub slice_bounds-propagate_properties-end : goal.slice_bounds-propagate_properties-end
-slice_bounds-propagate_properties-end c =
-    let put = c.bytes_of-a in
-    put_within c.in-Len.is (length put.new.out) put.ensures.within
-
-pub slice_bounds-propagate_properties-end-2 : goal.slice_bounds-propagate_properties-end-2
-slice_bounds-propagate_properties-end-2 c =
-    let put = c.bytes_of-a in
-    put_length c.in-Len.is put.new.out put.ensures.within
-
 pub returns : goal.returns
 returns c =
     let a = c.args in
     let line = a.line.now in
-    let p = bytes_told c.field.ensures a.plan.now c.bytes_of-a.new.out c.in-Len.is c.bytes_of-a.ensures.puts in
-    let out = c.in-Len-b.ensures in
-    let made = c.compared in
-    confirms made.result (asked line a.work.now p out.1 c.propagate_properties-reply.ensures.bytes) (stored line a.call.code a.call.value a.expected.now out.2) made.ensures
+    let p = bytes_told c.field.ensures a.plan.now c.bytes_of.new.out c.in_ok-n.ensures.puts in
+    let out = c.in_ok-leaves.ensures in
+    confirms (Std.Some c.compared.result) (asked line a.work.now p out.1 c.propagate_properties-reply.ensures.bytes) (stored line a.call.code a.call.value a.expected.now out.2) (rw c.from.ensures at c.compared.ensures)

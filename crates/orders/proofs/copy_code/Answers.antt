@@ -1,0 +1,21 @@
+-- `orders::copy_code` meets its contract: part by part. Assumes nothing.
+use mathlib.Core.Path.{refl, sym, ◌∙◌}
+use Rattle.base.proofs.Told.{passed_on}
+use Rattle.orders.proofs.Refusals.{next_err}
+use Rattle.orders.proofs.Orders.{copy_is}
+use Rattle.orders.proofs.copy_code.Goals as goal
+
+pub returns-in_err-operands_code : goal.returns-in_err-operands_code
+returns-in_err-operands_code c =
+    let e = c.in_err-operands_code.field-0.0 in
+    passed_on _ e c.from_residual.ensures.1 ∙ sym (next_err e _) ∙ copy_is c.requires.0 c.requires.1 c.in_err-operands_code.ensures c.args.c refl
+
+pub returns-in_err-bound_code : goal.returns-in_err-bound_code
+returns-in_err-bound_code c =
+    let e = c.in_err-bound_code.field-0.0 in
+    passed_on _ e c.from_residual-in_err-bound_code.ensures.1 ∙ sym (next_err e _)
+    ∙ copy_is c.requires.0 c.requires.1 c.in_ok-operands_code.ensures c.args.c c.in_err-bound_code.ensures
+
+pub returns : goal.returns
+returns c =
+    rw (c.first.ensures, c.columns_absent.ensures) (copy_is c.requires.0 c.requires.1 c.in_ok-operands_code.ensures c.args.c c.in_ok-bound_code.ensures)
