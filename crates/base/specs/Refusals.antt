@@ -42,10 +42,13 @@ number_of R.NotSeen = 30
 abbrev pub Answer : Type 0 → Type 0
 Answer X = Rust.Result X Refusal
 
--- what it stands for
+-- what it stands for, by the number that a refusal has; and of the code's own refusals
+abbrev pub told_by : {X E : Type 0} → (E → ℕ) → Rust.Result X E → Result X
+told_by number (Ok x) = ok x
+told_by number (Err e) = refused (number e)
+
 abbrev pub told : {X : Type 0} → Answer X → Result X
-told (Ok x) = ok x
-told (Err e) = refused (number_of e)
+told = told_by number_of
 
 -- 0 where nothing is refused, else the refusal's number
 abbrev pub code_in : {X : Type 0} → Answer X → ℕ

@@ -1,5 +1,5 @@
 // Why a call is refused, by 01's and 02's numbers. 25 is missing: no call gives it.
-ghost use Rattle.std.specs.Prelude.{◌≡◌};
+ghost use Rattle.std.specs.Prelude.{◌≡◌, ℕ};
 ghost use Rattle.base.specs.Refusals.{number_of};
 
 #[derive(Clone, Copy)]
@@ -97,5 +97,40 @@ impl Refusal {
         ensures { result ≡ number_of self }
     {
         self as u32
+    }
+}
+
+// What stands for a refusal: one of those that are named, or any number, for what hands on whatever refused.
+pub trait Refusing: Copy {
+    ghost number: { Self → ℕ };
+
+    fn number(self) -> u32
+        ensures { result ≡ number self };
+
+    fn of(refusal: Refusal) -> Self
+        ensures { number result ≡ number_of refusal };
+}
+
+impl Refusing for Refusal {
+    ghost number = { number_of };
+
+    fn number(self) -> u32 {
+        Refusal::number(self)
+    }
+
+    fn of(refusal: Refusal) -> Refusal {
+        refusal
+    }
+}
+
+impl Refusing for u32 {
+    ghost number = { λ k. k };
+
+    fn number(self) -> u32 {
+        self
+    }
+
+    fn of(refusal: Refusal) -> u32 {
+        Refusal::number(refusal)
     }
 }

@@ -4,14 +4,14 @@
 ghost use Rattle.std.specs.Prelude.{◌≡◌};
 ghost use Rattle.numbers.specs.Result.{ok};
 ghost use Rattle.numbers.specs.Kind.{lesser, greater, least, greatest};
-ghost use Rattle.base.specs.Refusals.{told};
+ghost use Rattle.base.specs.Refusals.{told, told_by};
 ghost use Rattle.base.specs.Code.{stated};
 ghost use Rattle.ends.specs.Ends.{from_two};
 ghost use Rattle.ends.specs.Code.{absent_ends, both_ends, two_of, end_of};
 
 use base::Bound;
 use base::number::Number;
-use base::refusals::Refusal;
+use base::refusals::{Refusal, Refusing};
 
 // An entry of a range.
 #[derive(Clone, Copy)]
@@ -30,8 +30,8 @@ pub fn unknown() -> Result<Range, Refusal>
 }
 
 // The lower end's refusal comes first.
-pub fn both(lower: Result<Bound, Refusal>, upper: Result<Bound, Refusal>) -> Result<Range, Refusal>
-    ensures { told result ≡ both_ends (told lower) (told upper) }
+pub fn both<E: Refusing>(lower: Result<Bound, E>, upper: Result<Bound, E>) -> Result<Range, E>
+    ensures { told_by E.number result ≡ both_ends (told_by E.number lower) (told_by E.number upper) }
 {
     Ok(Range {
         lower: lower?,

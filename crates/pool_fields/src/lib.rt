@@ -3,13 +3,12 @@
 
 ghost use Rattle.std.specs.Prelude.{◌≡◌};
 ghost use Rattle.base.specs.Code.{stated, head_fields};
-ghost use Rattle.base.specs.Refusals.{number_of};
 ghost use Rattle.shape.specs.Shape.{rows_sum};
 ghost use Rattle.shape.specs.Fields.{pool_fields};
-ghost use Rattle.pool_fields.specs.Code.{rows_in, behind_rows};
+ghost use Rattle.pool_fields.specs.Code.{rows_in, late, behind_rows_by};
 
 use base::Head;
-use base::refusals::Refusal;
+use base::refusals::{Refusal, Refusing};
 use writer::Parts;
 
 // The rows of two arrays stacked; none where their sum leaves 64 bits.
@@ -48,12 +47,19 @@ pub fn pool_head(rows: Option<i64>, l: Head, r: Head) -> Head
     }
 }
 
-// What refuses where the rows leave 64 bits: 24 comes behind 17 to 21 and 29, and before 26 and 28.
-pub fn behind_rows(derived: Result<Parts, Refusal>) -> Refusal
-    ensures { number_of result ≡ behind_rows derived }
+// The refusals of a nature that come behind 24 of the rows.
+fn is_late(number: u32) -> bool
+    ensures { result ≡ late number }
+{
+    number == Refusal::OverTheLimit.number() || number == Refusal::TooMuchText.number()
+}
+
+// What refuses where the rows leave 64 bits: 24 comes behind 17 to 21 and 29, and before 26 and 28. Any other number is handed on.
+pub fn behind_rows<E: Refusing>(derived: Result<Parts, E>) -> E
+    ensures { E.number result ≡ behind_rows_by E.number derived }
 {
     match derived {
-        Ok(_) | Err(Refusal::OverTheLimit | Refusal::TooMuchText) => Refusal::Leaves64Bits,
-        Err(refusal) => refusal,
+        Err(refusal) if !is_late(refusal.number()) => refusal,
+        Ok(_) | Err(_) => E::of(Refusal::Leaves64Bits),
     }
 }

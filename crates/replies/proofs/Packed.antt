@@ -16,7 +16,10 @@ reply_is k v bytes h e =
     let high : packed k v / 2 ^ 32 ≡ v = add-mul-div_left k v some ∙ ap (λ (n : ℕ). n + v) (div-eq_of_lt h) ∙ zero-add v in
     rw e (ap₂ (λ (a b : ℕ). outcome a b bytes) low high)
 
--- a refusal's number k
+-- a number n of a refusal that the code has as k
+pub number_is : (n v : ℕ) (bytes : List ℕ) {k r : ℕ} → k < 2 ^ 32 → k ≡ n → r ≡ packed k v → replied r bytes ≡ outcome n v bytes
+number_is n v bytes {k} h is p = reply_is k v bytes h p ∙ ap (λ (n : ℕ). outcome n v bytes) is
+
 pub refusal_is : (e : Refusal) (v : ℕ) (bytes : List ℕ) {k r : ℕ} → k < 2 ^ 32 → k ≡ number_of e → r ≡ packed k v
     → replied r bytes ≡ outcome (number_of e) v bytes
-refusal_is e v bytes {k} h is p = reply_is k v bytes h p ∙ ap (λ (n : ℕ). outcome n v bytes) is
+refusal_is e v bytes = number_is (number_of e) v bytes

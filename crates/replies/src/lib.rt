@@ -3,14 +3,14 @@
 
 ghost use Rattle.std.specs.Prelude.{◌≡◌, List, ℕ, ◌^◌, ◌<◌, length};
 ghost use Rattle.calls.specs.Single.{packed, delivery};
-ghost use Rattle.deliveries.specs.Code.{step_in, Held};
+ghost use Rattle.deliveries.specs.Code.{step_in_by, Held};
 ghost use Rattle.base.specs.Form.{narrow};
 ghost use Rattle.calls.specs.Walk.{sheet_in};
 ghost use Rattle.plan_leaves.specs.Code.{SlotIn, walked, Ended};
 ghost use Rattle.rights.specs.Reveal.{showing};
 ghost use Rattle.replies.specs.Reply.{replied};
 
-use base::refusals::Refusal;
+use base::refusals::{Refusal, Refusing};
 use plan_leaves::Walked;
 
 // What the value of a reply is multiplied by.
@@ -25,9 +25,9 @@ pub fn reply(code: u32, value: usize) -> u64
 }
 
 // Delivers what a step left in the scratch, and replies. A refusal leaves every byte of `out` as it was.
-pub fn deliver_reply(put: Result<usize, Refusal>, scratch: &[u8], out: &mut [u8]) -> u64
+pub fn deliver_reply<E: Refusing>(put: Result<usize, E>, scratch: &[u8], out: &mut [u8]) -> u64
     requires { Held put (length scratch.now) × (length scratch.now < 2 ^ 32) }
-    ensures { replied result out.new ≡ delivery (step_in put scratch.now) out.old }
+    ensures { replied result out.new ≡ delivery (step_in_by E.number put scratch.now) out.old }
 {
     let delivered = deliveries::deliver_sheet(put, scratch, out);
     match delivered {
