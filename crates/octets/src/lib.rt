@@ -150,7 +150,8 @@ pub fn put_f64(buf: &mut [u8], at: usize, v: f64) -> usize
 
 // ---- delivery
 
-// Copies the first `len` bytes of `src` to the start of `out`; where they do not fit, `out` stays as it was.
+// Copies the first `len` bytes of `src` to the start of `out`; where they do not fit, `out` stays as it was. No `copy_from_slice`: the static library would need
+// `memmove` from outside for it.
 pub fn deliver(out: &mut [u8], src: &[u8], len: usize) -> bool
     requires { len ≤ length src.now }
     ensures { (result ≡ leb len (length out.old)) × (out.new ≡ delivered out.old (take len src.now)) }
@@ -158,6 +159,8 @@ pub fn deliver(out: &mut [u8], src: &[u8], len: usize) -> bool
     if out.len() < len {
         return false;
     }
-    out[..len].copy_from_slice(&src[..len]);
+    for i in 0..len {
+        out[i] = src[i];
+    }
     true
 }

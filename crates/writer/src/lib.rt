@@ -66,9 +66,10 @@ pub fn put_bytes(buf: &mut [u8], at: usize, src: &[u8], from: usize, n: usize) -
     requires { (at + n ≤ length buf.old) × (from + n ≤ length src.now) }
     ensures { Wrote buf.old at n (take n (drop from src.now)) buf.new result }
 {
-    let end = at + n;
-    buf[at..end].copy_from_slice(&src[from..from + n]);
-    end
+    for i in 0..n {
+        buf[at + i] = src[from + i];
+    }
+    at + n
 }
 
 // A size: 16 bits or 32.
