@@ -37,7 +37,9 @@ pub fn clear_hints(hints: &mut [u8])
     requires { length hints.old ≡ hint_count }
     ensures { hints.new ≡ replicate hint_count 0 }
 {
-    hints.fill(0);
+    for i in 0..HINTS {
+        hints[i] = 0;
+    }
 }
 
 // Where the hint of x stands.
