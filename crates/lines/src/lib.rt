@@ -100,7 +100,10 @@ pub fn fields(s: &[u8]) -> usize
 pub fn field(s: &[u8], k: usize) -> &[u8]
     ensures { result.now ≡ field_of k s.now }
 {
-    s.split(|b| *b == BLANK).nth(k).unwrap_or(&[])
+    let Some(field) = s.split(|b| *b == BLANK).nth(k) else {
+        return &[];
+    };
+    field
 }
 
 // ---- numbers and bytes
