@@ -3,7 +3,6 @@ ghost use Rattle.std.specs.Prelude.{◌≡◌, ◌<◌, replicate};
 ghost use Rattle.replay.specs.Counts.{one_more, place_of, Counted};
 
 use answers::{Outcome, Stored, Told};
-use std::io::Result;
 
 // The components are 1 to 10; 0 stands for every other number, and for a plan.
 const PLACES: usize = 11;
@@ -95,28 +94,28 @@ impl Tally {
         }
     }
 
-    pub(crate) fn print(self, rt: &impl Print, list: Stored) -> Result<()> {
+    pub(crate) fn print(self, rt: &impl Print, list: Stored) {
         let agree = sum(&self.agree);
         let differ = sum(&self.differ);
-        println!(rt; "{}: {agree} agree, {differ} differ", name(list))?;
+        let _ = println!(rt; "{}: {agree} agree, {differ} differ", name(list));
         match list {
             Stored::Calls => {
-                self.print_calls(rt)?;
-                self.print_places(rt)
+                self.print_calls(rt);
+                self.print_places(rt);
             }
             Stored::Plans => self.print_plans(rt),
         }
     }
 
-    fn print_calls(self, rt: &impl Print) -> Result<()> {
-        println!(rt;
+    fn print_calls(self, rt: &impl Print) {
+        let _ = println!(rt;
             "{} accepted, {} refused, {} outputs too short; {} of {} lines cannot be read",
             self.accepted, self.refused, self.short, self.unread, self.lines
-        )
+        );
     }
 
-    fn print_plans(self, rt: &impl Print) -> Result<()> {
-        println!(rt;
+    fn print_plans(self, rt: &impl Print) {
+        let _ = println!(rt;
             "{} accepted, {} refused at a leaf, {} refused at a step, {} malformed, {} work buffers too short; {} of {} lines cannot be read",
             self.accepted,
             self.at_leaf,
@@ -125,17 +124,16 @@ impl Tally {
             self.short,
             self.unread,
             self.lines
-        )
+        );
     }
 
-    fn print_places(self, rt: &impl Print) -> Result<()> {
+    fn print_places(self, rt: &impl Print) {
         let agree = self.agree;
         let differ = self.differ;
         for k in 0..PLACES {
             let name = words::component(k as u32);
-            println!(rt; "{name}: {} agree, {} differ", agree[k], differ[k])?;
+            let _ = println!(rt; "{name}: {} agree, {} differ", agree[k], differ[k]);
         }
-        Ok(())
     }
 }
 
