@@ -1,6 +1,8 @@
 // Document 01's shelf examples and traps, and Pool, Subtract of ranges, counted category lists and lists without repeats of document 02: sheets are built, the gate derives, and what its output says is written with both signs.
 #![tactic(auto)]
 
+ghost use Rattle.std.specs.Prelude.{◌≡◌};
+
 mod sheet; // operands
 mod show; // what bytes say
 
@@ -14,7 +16,9 @@ const CALL_NODE: u32 = 9;
 const LENGTH_UNIT: u64 = 4294967296;
 
 // Makes a call, writes its operands and its answer, and gives the derived sheet.
-fn derive(rt: &impl Print, component: u32, left: &[u8], right: &[u8]) -> Sheet {
+fn derive(rt: &impl Print, component: u32, left: &[u8], right: &[u8]) -> Sheet
+    ensures { (left.exit.now ≡ left.entry.now) × (right.exit.now ≡ right.entry.now) }
+{
     let _ = print!(rt; "{} ", words::component(component));
     show::sheet(rt, left);
     if !right.is_empty() {

@@ -1,5 +1,5 @@
 // What a sheet's bytes say, in words. The examples' sheets have no groups. What cannot be written is left out, and what follows is tried all the same.
-ghost use Rattle.std.specs.Prelude.{◌<◌};
+ghost use Rattle.std.specs.Prelude.{◌≡◌, ◌<◌};
 
 use crate::sheet;
 use base::form;
@@ -28,7 +28,9 @@ fn signed(rt: &impl Print, v: u64) {
 }
 
 // The 64 bits at a place, as a signed number.
-fn number_at(rt: &impl Print, s: &[u8], at: usize) {
+fn number_at(rt: &impl Print, s: &[u8], at: usize)
+    ensures { s.exit.now ≡ s.entry.now }
+{
     if s.len() < 8 || s.len() - 8 < at {
         missing(rt);
         return;
@@ -37,7 +39,9 @@ fn number_at(rt: &impl Print, s: &[u8], at: usize) {
 }
 
 // The number at a place, if its mark says that it is present.
-fn marked(rt: &impl Print, s: &[u8], mark: usize, at: usize) {
+fn marked(rt: &impl Print, s: &[u8], mark: usize, at: usize)
+    ensures { s.exit.now ≡ s.entry.now }
+{
     match s.get(mark) {
         None => missing(rt),
         Some(0) => {
@@ -49,6 +53,7 @@ fn marked(rt: &impl Print, s: &[u8], mark: usize, at: usize) {
 
 fn end_at(rt: &impl Print, s: &[u8], at: usize)
     requires { at < 65536 }
+    ensures { s.exit.now ≡ s.entry.now }
 {
     marked(rt, s, at, at + 1);
 }
@@ -56,6 +61,7 @@ fn end_at(rt: &impl Print, s: &[u8], at: usize)
 // Entry i of the range's n.
 fn entry(rt: &impl Print, s: &[u8], n: usize, i: usize)
     requires { (n < 256) × (i < n) }
+    ensures { s.exit.now ≡ s.entry.now }
 {
     let lower = form::NARROW_ARRAYS_AT + form::END_WIDTH * i;
     let _ = print!(rt; "[");
@@ -65,7 +71,9 @@ fn entry(rt: &impl Print, s: &[u8], n: usize, i: usize)
     let _ = print!(rt; "]");
 }
 
-fn range(rt: &impl Print, s: &[u8]) {
+fn range(rt: &impl Print, s: &[u8])
+    ensures { s.exit.now ≡ s.entry.now }
+{
     let n = count_at(s, sheet::LISTS_AT);
     for i in 0..n {
         entry(rt, s, n, i);
@@ -75,6 +83,7 @@ fn range(rt: &impl Print, s: &[u8]) {
 // Category i of t, if it is of list k.
 fn category(rt: &impl Print, s: &[u8], t: usize, i: usize, k: usize)
     requires { (t < 256) × (i < t) }
+    ensures { s.exit.now ≡ s.entry.now }
 {
     let place = form::NARROW_ARRAYS_AT + i;
     if count_at(s, place) != k {
@@ -86,7 +95,9 @@ fn category(rt: &impl Print, s: &[u8], t: usize, i: usize, k: usize)
     number_at(rt, s, form::NARROW_ARRAYS_AT + t + form::VALUE_WIDTH * i);
 }
 
-fn values(rt: &impl Print, s: &[u8], k: usize) {
+fn values(rt: &impl Print, s: &[u8], k: usize)
+    ensures { s.exit.now ≡ s.entry.now }
+{
     let t = count_at(s, sheet::CATEGORIES_AT);
     for i in 0..t {
         category(rt, s, t, i, k);
@@ -94,7 +105,9 @@ fn values(rt: &impl Print, s: &[u8], k: usize) {
 }
 
 // The lists; one without values is written too.
-fn categories(rt: &impl Print, s: &[u8]) {
+fn categories(rt: &impl Print, s: &[u8])
+    ensures { s.exit.now ≡ s.entry.now }
+{
     for k in 0..count_at(s, sheet::LISTS_AT) {
         let _ = print!(rt; "{{");
         values(rt, s, k);
@@ -103,13 +116,16 @@ fn categories(rt: &impl Print, s: &[u8]) {
 }
 
 // The nature, and the columns where there are several.
-pub(crate) fn sheet(rt: &impl Print, s: &[u8]) {
-    match byte_at(s, form::NATURE_AT) {
-        form::WHOLE_RANGE => range(rt, s),
-        form::WHOLE_LISTS => categories(rt, s),
-        _ => {
-            let _ = print!(rt; "nothing");
-        }
+pub(crate) fn sheet(rt: &impl Print, s: &[u8])
+    ensures { s.exit.now ≡ s.entry.now }
+{
+    let nature = byte_at(s, form::NATURE_AT);
+    if nature == form::WHOLE_RANGE {
+        range(rt, s);
+    } else if nature == form::WHOLE_LISTS {
+        categories(rt, s);
+    } else {
+        let _ = print!(rt; "nothing");
     }
     let columns = byte_at(s, form::COLUMNS_AT);
     if columns != 1 {
@@ -117,10 +133,14 @@ pub(crate) fn sheet(rt: &impl Print, s: &[u8]) {
     }
 }
 
-pub(crate) fn node(rt: &impl Print, s: &[u8]) {
+pub(crate) fn node(rt: &impl Print, s: &[u8])
+    ensures { s.exit.now ≡ s.entry.now }
+{
     number_at(rt, s, form::NODE_AT);
 }
 
-pub(crate) fn rows(rt: &impl Print, s: &[u8]) {
+pub(crate) fn rows(rt: &impl Print, s: &[u8])
+    ensures { s.exit.now ≡ s.entry.now }
+{
     marked(rt, s, form::ROWS_MARK_AT, form::ROWS_AT);
 }

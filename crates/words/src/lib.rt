@@ -7,6 +7,9 @@ ghost use Rattle.words.specs.Signed.{magnitude_of};
 
 use base::Component;
 
+// The descriptor of the standard output.
+pub const STDOUT: i32 = 1;
+
 // A component's name; any other number is none.
 pub fn component(n: u32) -> &'static str
     ensures { result.now ≡ name_of n }
