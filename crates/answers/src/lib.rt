@@ -5,8 +5,12 @@ mod answer; // what the gate answers, held against the list
 mod single; // a line of the list of calls, and its call
 mod walk; // a line of the list of plans, and its plan call
 
-ghost use Rattle.std.specs.Prelude.{◌≡◌, IfSome};
+ghost use Rattle.std.specs.Prelude.{◌≡◌, ◌≤◌, Some, IfSome};
+ghost use Rattle.base.specs.Form.{narrow};
+ghost use Rattle.plan_form.specs.Form.{node_limit};
+ghost use Rattle.calls.specs.Walk.{slot_at};
 ghost use Rattle.lines.specs.Fields.{is_comment};
+ghost use Rattle.answers.specs.Texts.{number_at};
 ghost use Rattle.answers.specs.Answers.{Confirms, Judged};
 ghost use Rattle.answers.specs.ListLine.{length_field, asks, stores, defined, stored};
 
@@ -86,8 +90,17 @@ fn on_lent(list: Stored, line: &[u8], lent: &mut [u8], expected: &mut [u8]) -> O
     }
 }
 
-// Lent is a filled buffer of the length that the line tells. What is expected stands in another, so that every byte of which the line says nothing has
-// to be as it was.
+// Lent is a filled buffer of n bytes, as many as the line tells. What is expected stands in another, so that every byte of which the line says nothing has
+// to be as it was. Apart from the tests in front of it, since buffers that are made before these are cleared before they are filled.
+fn in_buffers(list: Stored, line: &[u8], n: usize) -> Option<Outcome>
+    requires { (number_at (length_field list) line.now ≡ Some n) × (n ≤ slot_at narrow node_limit) }
+    ensures { IfSome result (λ o. Confirms o (defined list line.now) (stored list line.now)) }
+{
+    let mut lent = answer::filled();
+    let mut expected = answer::filled();
+    on_lent(list, line, &mut lent[..n], &mut expected[..n])
+}
+
 fn read(list: Stored, line: &[u8]) -> Option<Outcome>
     ensures { IfSome result (λ o. Confirms o (defined list line.now) (stored list line.now)) }
 {
@@ -95,9 +108,7 @@ fn read(list: Stored, line: &[u8]) -> Option<Outcome>
     if answer::ROOM < n {
         return None;
     }
-    let mut lent = answer::filled();
-    let mut expected = answer::filled();
-    on_lent(list, line, &mut lent[..n], &mut expected[..n])
+    in_buffers(list, line, n)
 }
 
 pub fn judged(list: Stored, line: &[u8]) -> Outcome

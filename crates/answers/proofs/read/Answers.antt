@@ -1,29 +1,11 @@
 -- The length that the line tells is within the filled buffers. Assumes nothing.
-use Prim.Native.Nat.{ℕ, ◌≤◌}
-use mathlib.Core.Path.{◌≡◌, sym, ap, ◌∙◌}
-use mathlib.Core.List.{List}
+use Prim.Native.Nat.{ℕ}
+use mathlib.Core.Path.{sym, ap, ◌∙◌}
 use native.Mathlib.Omega.{arith}
-use Rattle.std.specs.Prelude as Std
-use Rattle.base.specs.Form.{narrow}
-use Rattle.plan_form.specs.Form.{node_limit}
-use Rattle.calls.specs.Walk.{slot_at}
-use Rattle.answers.specs.Texts.{number_at, with_number, filled}
-use Rattle.answers.specs.Answers.{Confirms}
-use Rattle.answers.specs.ListLine.{length_field, asks, stores, defined, stored}
-use Rattle.answers.specs.declared.Outcome.{Outcome}
-use Rattle.answers.specs.declared.Stored.{Stored}
-use Rattle.answers.proofs.Buffers.{part_filled}
+use Rattle.answers.specs.Texts.{number_at}
 use Rattle.answers.proofs.read.Goals as goal
 
-on_filled : (list : Stored) (line : List ℕ) (r : Std.Option Outcome) {n : ℕ} {lent expected : List ℕ} → number_at (length_field list) line ≡ Std.Some n → filled n ≡ lent → filled n ≡ expected → Std.IfSome r (λ o. Confirms o (asks list line lent) (stores list line expected)) → Std.IfSome r (λ o. Confirms o (defined list line) (stored list line))
-unfolding defined stored with_number
-on_filled list line r a f g h = rw a (rw (sym f, sym g) at h)
-
-pub returns : goal.returns
-returns c =
-    let a = c.args in
-    let line = a.line.now in
-    let n = c.in_ok-n.field-0 in
-    let within : n ≤ slot_at narrow node_limit = omega (arith, c.if-n-gt-ROOM.false) in
-    let length = ap (λ (k : ℕ). number_at k line) (sym c.length_field.ensures) ∙ sym c.number_at.ensures ∙ c.in_ok-n.was in
-    on_filled a.list line c.on_lent.result length (part_filled n _ within c.filled-lent.ensures.value) (part_filled n _ within c.filled-expected.ensures.value) c.on_lent.ensures
+pub in_buffers-requires : goal.in_buffers-requires
+in_buffers-requires c =
+    let line = c.args.line.now in
+    (ap (λ (k : ℕ). number_at k line) (sym c.length_field.ensures) ∙ sym c.number_at.ensures ∙ c.in_ok-n.was, omega (arith, c.if-n-gt-ROOM.false))
